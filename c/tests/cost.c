@@ -1,74 +1,108 @@
 /* SPDX-License-Identifier: MIT OR Apache-2.0 */
-/* What kt_enter() and kt_leave() cost beside two additions on an atomic word, with one thread and with four, each on its
- * own node. With an argument: status 1 if one thread takes more than that many times as long. */
+/* What kt_enter() and kt_leave() cost beside two additions on an atomic word, with one thread and with four. Each of the
+ * four has its own node, and their handles lie side by side in an array. With an argument: status 1 if either takes more
+ * than that many times as long. Processor time counts, and the best of 15 rounds: so other work on the machine does not.
+ * With fewer than four processors the four threads are left out, and the program says so. */
+#define _GNU_SOURCE
 #include <kernfs_tree.h>
 #include <pthread.h>
 #include <stdatomic.h>
 #include <stdio.h>
 #include <stdlib.h>
 #include <time.h>
+#include <unistd.h>
 
-enum { TURNS = 1000000, ROUNDS = 15, THREADS = 4 };
+enum { TURNS = 200000, ROUNDS = 15, THREADS = 4 };
 
 static struct kt_handle tree, holds[THREADS];
 static _Alignas(128) struct {
     atomic_ulong word;
     char rest[120];
 } words[THREADS];
+static pthread_barrier_t begun;
+
+struct job {
+    void (*what)(int number);
+    int number;
+    double took; /* nanoseconds of a turn */
+};
 
 static double now(void)
 {
     struct timespec time;
-    clock_gettime(CLOCK_MONOTONIC, &time);
+    clock_gettime(CLOCK_THREAD_CPUTIME_ID, &time);
     return (double)time.tv_sec * 1e9 + (double)time.tv_nsec;
 }
 
-/* The hold, or NULL if a call did not return 0. (The results are added up: a branch for each would cost more.) */
-static void *enter_and_leave(void *data)
+/* (The results are added up: a branch for each would cost more.) */
+static void enter_and_leave(int number)
 {
-    struct kt_handle *hold = data;
+    struct kt_handle *hold = &holds[number];
     int32_t answers = 0;
     for (int i = 0; i < TURNS; i++) {
         answers |= kt_enter(hold);
         answers |= kt_leave(hold);
     }
-    return answers ? NULL : data;
+    if (answers)
+        exit(2);
 }
 
-static void *add(void *data)
+static void add(int number)
 {
-    atomic_ulong *word = data;
     for (int i = 0; i < TURNS; i++) {
-        atomic_fetch_add(word, 1);
-        atomic_fetch_sub(word, 1);
+        atomic_fetch_add(&words[number].word, 1);
+        atomic_fetch_sub(&words[number].word, 1);
     }
-    return data;
 }
 
-/* The best round: how long a turn took. */
-static double best(int count, void *(*what)(void *), int is_words)
+static void *run(void *data)
+{
+    struct job *job = data;
+    pthread_barrier_wait(&begun);
+    double start = now();
+    job->what(job->number);
+    job->took = (now() - start) / TURNS;
+    return NULL;
+}
+
+/* The best round: how long a turn took, on average over the threads. */
+static double best(int count, void (*what)(int number))
 {
     double least = 1e18;
+    pthread_barrier_init(&begun, NULL, (unsigned)count);
     for (int round = 0; round < ROUNDS; round++) {
         pthread_t threads[THREADS];
-        double start = now();
-        for (int i = 0; i < count; i++)
-            if (pthread_create(&threads[i], NULL, what, is_words ? (void *)&words[i].word : (void *)&holds[i]))
-                exit(2);
+        struct job jobs[THREADS];
+        double took = 0;
         for (int i = 0; i < count; i++) {
-            void *done = NULL;
-            if (pthread_join(threads[i], &done) || !done)
+            jobs[i] = (struct job){.what = what, .number = i};
+            if (pthread_create(&threads[i], NULL, run, &jobs[i]))
                 exit(2);
         }
-        double took = (now() - start) / TURNS;
+        for (int i = 0; i < count; i++) {
+            if (pthread_join(threads[i], NULL))
+                exit(2);
+            took += jobs[i].took / count;
+        }
         least = took < least ? took : least;
     }
+    pthread_barrier_destroy(&begun);
     return least;
+}
+
+/* Prints both figures. Returns how many times as long an enter and a leave take. */
+static double compare(int count)
+{
+    double ours = best(count, enter_and_leave), theirs = best(count, add);
+    printf("%d thread%s: enter and leave %.1f ns, two additions %.1f ns, %.2f times\n", count, count == 1 ? "" : "s", ours,
+           theirs, ours / theirs);
+    return ours / theirs;
 }
 
 int main(int count, char **words_given)
 {
     struct kt_key root, key;
+    double most = count > 1 ? atof(words_given[1]) : 1e18;
     if (kt_new(&tree.at) || kt_create_root(&tree, 256, 16) || kt_root(&tree, &root))
         return 2;
     for (int i = 0; i < THREADS; i++) {
@@ -77,9 +111,10 @@ int main(int count, char **words_given)
             kt_hold(&tree, key, &holds[i]))
             return 2;
     }
-    double ours = best(1, enter_and_leave, 0), theirs = best(1, add, 1);
-    printf("1 thread: enter and leave %.1f ns, two additions %.1f ns, %.2f times\n", ours, theirs, ours / theirs);
-    double four = best(THREADS, enter_and_leave, 0), others = best(THREADS, add, 1);
-    printf("4 threads: enter and leave %.1f ns, two additions %.1f ns, %.2f times\n", four, others, four / others);
-    return count > 1 && ours > atof(words_given[1]) * theirs;
+    int is_slow = compare(1) > most;
+    if (sysconf(_SC_NPROCESSORS_ONLN) < THREADS)
+        printf("4 threads: left out, since there are fewer than 4 processors\n");
+    else
+        is_slow |= compare(THREADS) > most;
+    return is_slow;
 }

@@ -7,10 +7,10 @@
 
 #include "trying.h"
 
-static struct kt_handle tree, hold, other;
+static struct kt_handle tree, small, hold, other;
 static struct kt_lock lock;
 static struct kt_key root, dir, file, folder, key;
-static struct kt_stat stat;
+static struct kt_node_info stat;
 
 static int same(struct kt_key a, struct kt_key b) { return a.slot == b.slot && a.generation == b.generation; }
 
@@ -238,11 +238,43 @@ static void removes_itself_too_late(void)
     TRY(kt_clear(&hold) < 0, 0);
 }
 
+static void *removes(void *result)
+{
+    *(int32_t *)result = kt_remove_wait_for(&small, file, &lock, 60 * 1000);
+    return NULL;
+}
+
+/* A marked node has the maximum of holds, which is two here. The removal waits for a place, until one of the holds is
+ * cleared. */
+static void removes_what_is_full(void)
+{
+    pthread_t thread;
+    int32_t removed = 5;
+    time_t start = time(NULL);
+    TRY(kt_create_root(&small, 4, 2), 0);
+    TRY(kt_root(&small, &root), 0);
+    TRY(kt_create_file(&small, root, "f", 1, 0644, 0, true, &file), 0);
+    TRY(kt_hold(&small, file, &hold), 0);
+    TRY(kt_enter(&hold), 0);
+    TRY(kt_remove(&small, file), -EAGAIN);
+    TRY(kt_hold(&small, file, &other), 0);
+    TRY(kt_leave(&hold), 1);
+    TRY(kt_remove(&small, file), -EAGAIN); /* nobody is inside, and there is no place for its hold */
+    pthread_create(&thread, NULL, removes, &removed);
+    usleep(50 * 1000);
+    TRY(kt_clear_wake(&other, &lock), 0);
+    pthread_join(thread, NULL);
+    TRY(removed, 1);
+    TRY(time(NULL) - start < 30, 1); /* by the wake, and not by the end of its time */
+    TRY(kt_clear_wake(&hold, &lock), 0);
+}
+
 int main(void)
 {
     TRY(kt_new(&tree.at), 0);
     TRY(kt_new(&hold.at), 0);
     TRY(kt_new(&other.at), 0);
+    TRY(kt_new(&small.at), 0);
     TRY(kt_lock_init(&lock), 0);
     TRY(kt_create_root(&tree, 12, 4), 0);
     TRY(kt_root(&tree, &root), 0);
@@ -260,6 +292,8 @@ int main(void)
     paths();
     clears_inside();
     removes_itself_too_late();
+    removes_what_is_full();
+    TRY(kt_delete(small), 0);
     TRY(kt_delete(other), 0);
     TRY(kt_delete(hold), 0);
     TRY(kt_delete(tree), 0);

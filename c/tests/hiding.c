@@ -9,7 +9,7 @@
 static struct kt_handle own, hold, other, nothing;
 static struct kt_lock lock = KT_LOCK_INIT;
 static struct kt_key key;
-static struct kt_stat stat;
+static struct kt_node_info stat;
 static char text[64];
 
 /* A file hidden with no caller inside, and shown again. */

@@ -649,7 +649,7 @@ static void tidy(void)
     for (int i = 0; i < 50000; i++) {
         wrong += PUBLISH("/fan0", fan) != 0;
         wrong += kt_live_unpublish(live, fan.key) != 1;
-        struct kt_commands commands;
+        struct kt_command_counts commands;
         wrong += kt_commands(&live->tree, &commands) || commands.stored > 1000 + 4 * COUNT;
     }
     TRY(wrong, 0);

@@ -34,7 +34,7 @@ static void must(int64_t answer, const char *what)
 
 static int64_t use(struct kt_handle *call, void *data)
 {
-    struct kt_stat stat;
+    struct kt_node_info stat;
     struct kt_key key = *(struct kt_key *)data;
     (void)call;
     /* as long as this call runs the node is in the tree, and its tag, the device, is there */

@@ -6,7 +6,7 @@
 
 static struct kt_handle tree, hold, post, open, other, small, all;
 static struct kt_key root, dir, file, key;
-static struct kt_stat stat;
+static struct kt_node_info stat;
 static struct kt_lock lock = KT_LOCK_INIT;
 static char text[300], long_name[201];
 
@@ -46,7 +46,7 @@ static void full(void)
     AGAIN(kt_hold(&small, file, &all));
     REFUSED(kt_create_root(&small, 4, 1));
     REFUSED(kt_hold(&small, dir, &all));
-    REFUSED(kt_post(&small, file, &all));
+    REFUSED(kt_event_open(&small, file, &all));
     REFUSED(kt_open(&small, file, true, false, &all));
     REFUSED(kt_hold(&small, file, &open));
     REFUSED(kt_dup(&all, &open));
@@ -127,7 +127,7 @@ int main(void)
     AGAIN(kt_rename(&tree, file, root, long_name, 199));
     AGAIN(kt_compact(&tree));
     AGAIN(kt_new(&post.at));
-    AGAIN(kt_post(&tree, file, &post));
+    AGAIN(kt_event_open(&tree, file, &post));
     AGAIN(kt_notify(&post));
     AGAIN(kt_new(&open.at));
     AGAIN(kt_open(&tree, file, true, true, &open));

@@ -7,7 +7,7 @@ import shlex
 import sys
 
 # Functions of the headers that are no program's to call.
-INNER = {"kt_dump_line"}
+INNER = {"kt_dump_line", "kt_unlock_of", "kt_end_of", "kt_show_into", "kt_until_done", "kt_time_in"}
 PROTOTYPE = re.compile(
     r"^(?:KT_\w+(?:\([\d, ]*\))?\s+)*(?:static inline )?((?:const char|struct kt_key|\w+) \*?(kt_\w+)\([^)]*\))\s*[;{]", re.M
 )
@@ -18,6 +18,10 @@ add_executable(shared example.c)
 target_link_libraries(shared kernfs_tree::kernfs_tree)
 add_executable(static example.c)
 target_link_libraries(static kernfs_tree::static)
+add_executable(bind bind.c)
+target_link_libraries(bind kernfs_tree::bind)
+add_executable(bind_static bind.c)
+target_link_libraries(bind_static kernfs_tree::bind_static)
 foreach(other 0.1 {version}.999)
     find_package(kernfs_tree ${{other}} QUIET)
     if(kernfs_tree_FOUND)
@@ -25,18 +29,35 @@ foreach(other 0.1 {version}.999)
     endif()
 endforeach()
 """
+# A program over the library for bindings, which needs both libraries.
+BIND = """#include <kt_bind.h>
+int main(void)
+{
+    struct kt_bind_lock *lock;
+    struct kt_handle tree;
+    int32_t taken, result = kt_bind_new_lock(&lock);
+    if (result || kt_new(&tree.at))
+        return 1;
+    taken = kt_bind_take(lock);
+    result = kt_bind_take(lock);
+    kt_bind_release(lock);
+    result = result == -EDEADLK && !taken ? kt_bind_delete(tree, lock) : 1;
+    kt_bind_delete_lock(lock);
+    return result;
+}
+"""
 PLUGIN = """#include <kt_live.h>
 int plugin(void);
 int plugin(void)
 {
     struct kt_live *live;
     struct kt_key key;
-    int32_t answer = kt_live_new(&live, 8);
-    if (!answer)
-        answer = kt_live_publish(live, "/d", NULL, 0, NULL, &key);
-    if (!answer && kt_live_unpublish(live, key) != 1)
-        answer = -EIO;
-    return answer ? answer : kt_live_delete(live);
+    int32_t result = kt_live_new(&live, 8);
+    if (!result)
+        result = kt_live_publish(live, "/d", NULL, 0, NULL, &key);
+    if (!result && kt_live_unpublish(live, key) != 1)
+        result = -EIO;
+    return result ? result : kt_live_delete(live);
 }
 """
 LOADER = """#include <dlfcn.h>
@@ -72,7 +93,7 @@ def install(run, here, prefix):
 
 
 def version(here):
-    numbers = re.findall(r"^#define KT_VERSION_M(?:AJOR|INOR) (\d+)", (here / "kernfs_tree.h").read_text(), re.M)
+    numbers = re.findall(r"^#define KT_VERSION_M(?:AJOR|INOR) (\d+)", (here / "include/kernfs_tree.h").read_text(), re.M)
     return ".".join(numbers)
 
 
@@ -83,13 +104,16 @@ def found_by_pkg_config(run, here, room):
     if wrong:
         return wrong
     env = {**os.environ, "PKG_CONFIG_PATH": f"{prefix}/lib/pkgconfig"}
-    for name, path in (("kernfs_tree-static", ""), ("kernfs_tree", f"{prefix}/lib")):
+    (room / "bind.c").write_text(BIND)
+    for name in ("kernfs_tree-static", "kernfs_tree", "kernfs_tree_bind-static", "kernfs_tree_bind"):
+        path = "" if name.endswith("-static") else f"{prefix}/lib"
+        source = room / "bind.c" if "bind" in name else here / "example.c"
         told = run(["pkg-config", "--cflags", "--libs", name], env=env)
-        made = run(["cc", "-o", "installed", here / "example.c", *shlex.split(told.stdout)])
+        made = run(["cc", "-o", "installed", source, *shlex.split(told.stdout)])
         if told.returncode or made.returncode:
             return told.stderr + made.stderr
         if run([room / "installed"], env={**os.environ, "LD_LIBRARY_PATH": path}).returncode:
-            return f"the example fails, linked by {name}"
+            return f"{source.name} fails, linked by {name}"
     return None
 
 
@@ -104,13 +128,14 @@ def found_by_cmake(run, here, room):
     project.mkdir()
     (project / "CMakeLists.txt").write_text(CMAKE.format(version=version(here)))
     (project / "example.c").write_bytes((here / "example.c").read_bytes())
+    (project / "bind.c").write_text(BIND)
     for words in (["-S", project, "-B", project / "out", f"-DCMAKE_PREFIX_PATH={room}"], ["--build", project / "out"]):
         made = run(["cmake", *words])
         if made.returncode:
             return made.stdout[-600:] + made.stderr[-1200:]
-    for name in ("shared", "static"):
+    for name in ("shared", "static", "bind", "bind_static"):
         if run([project / "out" / name]).returncode:
-            return f"the example fails, linked with the {name} library"
+            return f"the program {name} fails"
     return None
 
 
@@ -125,8 +150,9 @@ def has_pages(run, here, room):
         ("kt_tell.h", "kernfs_tree.3"),
         ("kt_wait.h", "kernfs_tree.3"),
         ("kt_live.h", "kt_live.3"),
+        ("kt_bind.h", "kernfs_tree-bindings.3"),
     ):
-        text = re.sub(r"/\*.*?\*/", "", (here / header).read_text().split("/* ---- what these are made of")[0], flags=re.S)
+        text = re.sub(r"/\*.*?\*/", "", (here / "include" / header).read_text().split("/* ---- what these are made of")[0], flags=re.S)
         shown = re.sub(r"^\.BI?|[\s\"\\]", "", (manual / page).read_text().split(".SH DESCRIPTION")[0], flags=re.M)
         for prototype, name in PROTOTYPE.findall(text):
             link = manual / f"{name}.3"
@@ -146,7 +172,7 @@ def works_as_plugin(run, here, room, archive):
     (room / "loader.c").write_text(LOADER)
     flags = ["-O2", "-Wall", "-Wextra", "-Werror"]
     for name in ("one.so", "two.so"):
-        made = run(["cc", *flags, "-shared", "-fPIC", "-I", here, "-o", name, "plugin.c", archive, "-pthread"])
+        made = run(["cc", *flags, "-shared", "-fPIC", "-I", here / "include", "-o", name, "plugin.c", archive, "-pthread"])
         if made.returncode:
             return made.stderr
     made = run(["cc", *flags, "-o", "loader", "loader.c", "-ldl"])
@@ -156,9 +182,25 @@ def works_as_plugin(run, here, room, archive):
     return f"status {ran.returncode}" if ran.returncode else None
 
 
+def closes_plugin(run, here, room, archive):
+    """A plugin that unpublishes itself in its own store goes on there; then the host closes it: its code is unmapped."""
+    flags = ["-O2", "-Wall", "-Wextra", "-Werror", "-I", here / "include", "-pthread"]
+    plugin, host = here / "tests/self_plugin.c", here / "tests/self_host.c"
+    whole = ["-Wl,--whole-archive", archive, "-Wl,--no-whole-archive"]
+    for words in (
+        ["cc", *flags, "-shared", "-fPIC", "-o", "self.so", plugin],
+        ["cc", *flags, "-rdynamic", "-o", "host", host, *whole, "-ldl"],
+    ):
+        made = run(words)
+        if made.returncode:
+            return made.stderr
+    ran = run([room / "host", room / "self.so"])
+    return f"status {ran.returncode}: {ran.stdout[-600:]} {ran.stderr[-600:]}" if ran.returncode else None
+
+
 def works_in_python(run, here, archive):
-    """The test of the Python module, with the shared library beside the archive."""
-    env = {**os.environ, "PYTHONPATH": f"{here}:{here}/tests", "PYTHONDONTWRITEBYTECODE": "1"}
+    """The tests of the Python modules, with the shared library beside the archive."""
+    env = {**os.environ, "PYTHONPATH": f"{here}/python:{here}/tests", "PYTHONDONTWRITEBYTECODE": "1"}
     env["KERNFS_TREE"] = str(archive.parent / f"libkernfs_tree.so.{version(here)}")
-    ran = run([sys.executable, "-m", "unittest", "test_kernfs_tree"], env=env)
+    ran = run([sys.executable, "-m", "unittest", "test_kernfs_tree", "test_kernfs_live"], env=env)
     return None if ran.returncode == 0 and "\nOK" in ran.stderr else ran.stderr[-1500:]

@@ -1,12 +1,13 @@
 # SPDX-License-Identifier: MIT OR Apache-2.0
-"""Tests the Python module:  KERNFS_TREE=.. python3 -m unittest test_kernfs_tree  (the path of the shared library)."""
+"""Tests kernfs_tree.py:  KERNFS_TREE=.. python3 -m unittest test_kernfs_tree  (the path of the shared library)."""
 
 import errno
+import signal
 import threading
 import time
 import unittest
 
-from kernfs_tree import DIR, FILE, LINK, Key, KtError, Tree
+from kernfs_tree import DIR, FILE, LINK, Gone, Key, KtError, Tree
 
 
 class Calls(unittest.TestCase):
@@ -187,6 +188,74 @@ class Calls(unittest.TestCase):
             self.assertTrue(file.poll())
         with self.refused(errno.EACCES):
             tree.open(tree.create_file(tree.root, "w", 0o200), "r")
+
+    def test_kinds_of_errors(self):
+        """An error is a KtError, and the kind of OSError that Python has for its number."""
+        tree, hold = self.tree, self.tree.hold(self.speed)
+        for kind, call in (
+            (FileNotFoundError, lambda: tree.walk("/none")),
+            (FileExistsError, lambda: tree.create_dir(tree.root, "fan0")),
+            (NotADirectoryError, lambda: tree.walk("/fan0/speed/more")),
+            (IsADirectoryError, lambda: tree.open(self.fan)),
+            (PermissionError, lambda: tree.open(tree.create_file(tree.root, "w", 0o200))),
+        ):
+            with self.assertRaises(kind) as caught:
+                call()
+            self.assertIsInstance(caught.exception, KtError)
+        with hold, self.assertRaises(TimeoutError):
+            tree.remove_wait(self.fan, seconds=0.01)
+        with self.assertRaises(Gone):
+            hold.enter()
+        with self.assertRaises(KtError) as caught:
+            Tree(slots=0)
+        self.assertIs(type(caught.exception), KtError)
+
+    def test_self_removal(self):
+        tree, hold = self.tree, self.tree.hold(self.speed)
+        with hold:
+            self.assertTrue(tree.remove_self(hold, self.fan))
+            self.assertFalse(tree.remove_self(hold))
+        with self.refused(errno.ENOENT):
+            tree.walk("/fan0")
+
+    def test_hold_in_two_threads(self):
+        """Two threads that share a hold get EINVAL, and no removal hangs after it."""
+        hold, wrong = self.tree.hold(self.speed), []
+
+        def use():
+            try:
+                hold.enter()
+            except KtError as error:
+                wrong.append(error.errno)
+
+        with hold:
+            thread = threading.Thread(target=use)
+            thread.start()
+            thread.join()
+        self.assertEqual(wrong, [errno.EINVAL])
+        self.assertEqual(self.tree.remove_wait(self.fan), 1)
+
+    def test_finalizer_under_the_lock(self):
+        """A hold that ends while its thread has the tree's lock wakes without waiting for itself."""
+        hold = self.tree.hold(self.speed)
+        with self.tree._lock, self.tree._lock:
+            hold.close()
+            self.tree.hold(self.speed).close()
+            with self.refused(errno.EDEADLK):
+                self.tree.remove_wait(self.fan)
+        self.assertEqual(self.tree.remove_wait(self.fan), 1)
+
+    @unittest.skipIf(threading.current_thread() is not threading.main_thread(), "signals need the main thread")
+    def test_interrupt_ends_a_wait(self):
+        hold = self.tree.hold(self.speed)
+        before = signal.signal(signal.SIGALRM, signal.default_int_handler)
+        try:
+            with hold, self.assertRaises(KeyboardInterrupt):
+                signal.setitimer(signal.ITIMER_REAL, 0.05)
+                self.tree.remove_wait(self.fan)
+        finally:
+            signal.signal(signal.SIGALRM, before)
+        self.assertEqual(self.tree.remove_wait(self.fan), 1)
 
     def test_no_callback_after_removal(self):
         """Four threads run callbacks of 50 files that are removed: none runs after the removal."""

@@ -53,7 +53,7 @@ static struct kt_key publish(struct kt_key root)
 /* Whether a removal has marked the node. */
 static bool is_doomed(struct kt_key key)
 {
-    struct kt_stat stat;
+    struct kt_node_info stat;
     pthread_mutex_lock(&lock.mutex);
     must(kt_stat(&tree, key, &stat), "stat");
     pthread_mutex_unlock(&lock.mutex);
@@ -104,7 +104,7 @@ static long calls(void)
 /* After the removal no hold of a twin can enter, and no twin is in the tree. */
 static void try_after(void)
 {
-    struct kt_stat stat;
+    struct kt_node_info stat;
     int refused = 0, late = 0, there = 0;
     for (int i = 0; i < THREADS; i++) {
         refused += callers[i].refused == -ENODEV;

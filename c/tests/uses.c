@@ -8,8 +8,8 @@
 
 static struct kt_handle tree, hold, other, nothing;
 static struct kt_key root, dir, file, link_key, key, stale;
-static struct kt_stat stat;
-static struct kt_commands commands;
+static struct kt_node_info stat;
+static struct kt_command_counts commands;
 static char text[64], longest[300];
 
 static int same(struct kt_key a, struct kt_key b) { return a.slot == b.slot && a.generation == b.generation; }
@@ -250,7 +250,7 @@ static void doubles(void)
     TRY(kt_dup(&small, &other), -EINVAL);
     TRY(kt_hold(&small, file, &hold), 0);
     TRY(kt_dup(&hold, &small), -EINVAL);
-    TRY(kt_post(&small, file, &third), 0);
+    TRY(kt_event_open(&small, file, &third), 0);
     TRY(kt_dup(&third, &other), -EINVAL);
     TRY(kt_dup(&hold, &third), -EINVAL);
     TRY(kt_clear(&third), 0);
@@ -305,14 +305,14 @@ static void posts(void)
     TRY(kt_event(&hold, &event), -EINVAL);
     TRY(kt_notify(&hold), -EINVAL);
     TRY((int64_t)event, 9);
-    TRY(kt_post(&tree, stale, &hold), -ENOENT);
-    TRY(kt_post(&hold, file, &other), -EINVAL);
-    TRY(kt_post(&tree, file, &hold), 0);
-    TRY(kt_post(&tree, file, &hold), -EINVAL);
+    TRY(kt_event_open(&tree, stale, &hold), -ENOENT);
+    TRY(kt_event_open(&hold, file, &other), -EINVAL);
+    TRY(kt_event_open(&tree, file, &hold), 0);
+    TRY(kt_event_open(&tree, file, &hold), -EINVAL);
     TRY(kt_hide(&hold, file), -EINVAL);
     TRY(kt_unhide(&hold, file), -EINVAL);
     TRY(kt_shown(&hold, "x", 1), -EINVAL);
-    TRY(kt_post(&tree, file, &other), 0);
+    TRY(kt_event_open(&tree, file, &other), 0);
     TRY(kt_event(&hold, &event), 0);
     TRY((int64_t)event, 1);
     TRY(kt_notify(&other), 0);

@@ -28,11 +28,13 @@ RIGHT = (
 
 # What the sanitizers say, and of which uses.
 FREED, NO_HANDLE, RACE, USED_FREED = "heap-use-after-free", "SEGV", "data race", "heap-use-after-free"
+OF_A_CALL = "kt_delete() of a call: leave it first"
 REPORTED = {
     "address": {
         **dict.fromkeys(
-            ("entered", "left", "cleared", "deleted", "walked", "held", "copied", "doubled", "deleted_inside"), FREED
+            ("entered", "left", "cleared", "deleted", "walked", "held", "copied", "doubled"), FREED
         ),
+        "deleted_inside": OF_A_CALL,
         **dict.fromkeys(("long_path", "long_name", "long_new_name", "long_shown"), "heap-buffer-overflow"),
         "zeroed": NO_HANDLE,
     },

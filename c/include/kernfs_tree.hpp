@@ -1,0 +1,400 @@
+/* SPDX-License-Identifier: MIT OR Apache-2.0 */
+/* kernfs_tree.hpp: the calls of kernfs_tree.h for C++17, in one header over the C library. It is tested, not proved.
+ *
+ *     kernfs::tree tree(64, 64);
+ *     auto edit = tree.edit();                                 // the tree's lock, as long as this exists
+ *     auto fan = edit.create_dir(edit.root(), "fan0", false);
+ *     auto speed = edit.create_file(fan, "speed", 0444, 0, false);
+ *     edit.activate(fan);
+ *     auto hold = edit.hold(speed);
+ *     edit.unlock();
+ *     if (auto call = hold.enter())                            // takes no lock; empty once the fan is removed
+ *         show_speed();                                        // the call is left at the end, also by an exception
+ *     tree.remove_wait(fan);                                   // no callback runs there, and none ever starts
+ *
+ * - Each class owns its handle, and can be moved but not copied. One thread at a time uses a hold, a file or a post.
+ * - A call that fails throws kernfs::error, a std::system_error with the library's error number in generic_category().
+ *   hold::enter() returns an empty call instead, since a node that is gone is no error.
+ * - Calls on a tree are made by an `editor`, so they are never made without the lock. A thread that has an editor may
+ *   enter and leave, and drop holds. If it waits (tree::remove_wait() and the like) or asks for a second editor, it would
+ *   wait for itself: then std::logic_error is thrown.
+ * - A tree must outlive the calls that run in it. Its holds and files may outlive it. */
+#ifndef KERNFS_TREE_HPP
+#define KERNFS_TREE_HPP
+
+#include <atomic>
+#include <cassert>
+#include <chrono>
+#include <functional>
+#include <kernfs_tree.h>
+#include <memory>
+#include <mutex>
+#include <stdexcept>
+#include <string>
+#include <string_view>
+#include <system_error>
+#include <thread>
+#include <utility>
+
+namespace kernfs {
+
+class error : public std::system_error {
+public:
+    explicit error(std::int64_t result)
+        : std::system_error(static_cast<int>(-result), std::generic_category(), kt_strerror(result)) {}
+    int number() const noexcept { return code().value(); }
+};
+
+/* A result of the C library, or the exception for it. */
+inline std::int64_t must(std::int64_t result)
+{
+    if (result < 0)
+        throw error(result);
+    return result;
+}
+
+using key = kt_key;
+using node_info = struct kt_node_info;
+
+/* Owns a handle, from kt_new() to kt_delete(). */
+class handle {
+public:
+    handle() { must(kt_new(&raw_.at)); }
+    handle(handle &&other) noexcept : raw_{std::exchange(other.raw_.at, nullptr)} {}
+    handle &operator=(handle &&other) noexcept
+    {
+        std::swap(raw_.at, other.raw_.at);
+        return *this;
+    }
+    /* (A tree in which a hiding has begun and not ended is not freed: its memory stays until the program ends.) */
+    ~handle() { (void)(raw_.at && kt_delete(raw_)); }
+    kt_handle *get() noexcept { return &raw_; }
+    explicit operator bool() const noexcept { return raw_.at; }
+
+private:
+    kt_handle raw_{nullptr};
+};
+
+/* The lock of a tree, in which its removals and hidings wait. It knows the thread that has it. */
+class tree_lock {
+public:
+    tree_lock() { must(kt_lock_init(&raw_)); }
+    tree_lock(const tree_lock &) = delete;
+    ~tree_lock() { kt_lock_destroy(&raw_); }
+    void lock()
+    {
+        pthread_mutex_lock(&unowned()->mutex);
+        owner_.store(std::this_thread::get_id(), std::memory_order_relaxed);
+    }
+    void unlock()
+    {
+        owner_.store(std::thread::id(), std::memory_order_relaxed);
+        pthread_mutex_unlock(&raw_.mutex);
+    }
+    /* For a call that takes the lock itself and may sleep: this thread must not have it. */
+    kt_lock *unowned()
+    {
+        if (is_mine())
+            throw std::logic_error("this thread has an editor of the tree: it would wait for itself");
+        return &raw_;
+    }
+    /* Wakes the threads that wait in a removal or a hiding, with the lock or without it. */
+    void wake() noexcept
+    {
+        if (is_mine())
+            pthread_cond_broadcast(&raw_.left);
+        else
+            kt_wake(&raw_);
+    }
+
+private:
+    bool is_mine() const noexcept { return owner_.load(std::memory_order_relaxed) == std::this_thread::get_id(); }
+    kt_lock raw_;
+    std::atomic<std::thread::id> owner_{};
+};
+
+/* What a callback runs under. Its destructor leaves. It is empty if the node could not be entered. */
+class call {
+public:
+    call() = default;
+    call(call &&other) noexcept : raw_(std::exchange(other.raw_, nullptr)), lock_(other.lock_) {}
+    ~call() { leave(); }
+    explicit operator bool() const noexcept { return raw_; }
+    void leave() noexcept
+    {
+        if (raw_ && kt_leave(std::exchange(raw_, nullptr)) == 1)
+            lock_->wake();
+    }
+
+    /* While this exists, a removal does not wait for the call: for code that would wait for the removal. */
+    class broken {
+    public:
+        explicit broken(call &of) : of_(of)
+        {
+            if (must(kt_break(of.raw_)) == 1)
+                of.lock_->wake();
+        }
+        broken(const broken &) = delete;
+        ~broken() { kt_restore(of_.raw_); }
+
+    private:
+        call &of_;
+    };
+
+private:
+    friend class hold;
+    friend class tree;
+    friend class file;
+    call(kt_handle *raw, tree_lock *lock) : raw_(raw), lock_(lock) {}
+    kt_handle *raw_ = nullptr;
+    tree_lock *lock_ = nullptr;
+};
+
+/* A hold of a node, which keeps the node's slot from being reused. One thread at a time uses it: dup() makes another. */
+class hold {
+public:
+    /* Before a callback. The call is empty if the node is not live. The hold must not move before the call is left. */
+    call enter()
+    {
+        std::int32_t entered = kt_enter(own_.get());
+        if (entered == -ENODEV) {
+            lock_->wake();
+            return {};
+        }
+        must(entered);
+        return call(own_.get(), lock_.get());
+    }
+    hold dup()
+    {
+        hold other(lock_);
+        std::int32_t made;
+        while ((made = kt_dup(own_.get(), other.own_.get())) == -EBUSY)
+            std::this_thread::yield();
+        must(made);
+        return other;
+    }
+    hold(hold &&) = default;
+    hold &operator=(hold &&other) noexcept
+    {
+        std::swap(lock_, other.lock_);
+        std::swap(own_, other.own_);
+        return *this;
+    }
+    /* (It always wakes: a removal of a node that was full of holds may wait for one.) */
+    ~hold()
+    {
+        if (own_) {
+            (void)!kt_clear(own_.get());
+            lock_->wake();
+        }
+    }
+
+protected:
+    friend class editor;
+    friend class file;
+    explicit hold(std::shared_ptr<tree_lock> lock) : lock_(std::move(lock)) {}
+    std::shared_ptr<tree_lock> lock_;
+    handle own_;
+};
+
+/* An open file: its node, its event counter and the text of its last show. */
+class file : public hold {
+public:
+    /* What `show()` returns, which converts to std::string_view, from an offset on. What it throws is passed on. */
+    template <class Show> std::string read(Show &&show, std::uint64_t offset = 0, std::size_t size = KT_PAGE_SIZE)
+    {
+        std::int32_t begun = kt_begin_read(own_.get(), offset);
+        if (begun == -ENODEV)
+            lock_->wake();
+        if (must(begun) == 1) {
+            call running(own_.get(), lock_.get());
+            const auto &text = show();
+            std::string_view shown(text);
+            must(kt_shown(own_.get(), shown.data(), shown.size()));
+        }
+        std::string out(size, '\0');
+        out.resize(static_cast<std::size_t>(must(kt_copy(own_.get(), offset, out.data(), size))));
+        return out;
+    }
+    /* What `store(bytes)` returns, for a page of bytes at most. Without any byte it is 0, and `store` does not run. */
+    template <class Store> std::size_t write(std::string_view bytes, Store &&store)
+    {
+        std::int32_t begun = kt_begin_write(own_.get());
+        if (begun == -ENODEV)
+            lock_->wake();
+        must(begun);
+        call running(own_.get(), lock_.get());
+        return bytes.empty() ? 0 : static_cast<std::size_t>(store(bytes.substr(0, KT_PAGE_SIZE)));
+    }
+    /* Whether the file has changed since its last read, was never read, or is not live. */
+    bool poll()
+    {
+        call running = enter();
+        return !running || must(kt_changed(own_.get())) == 1;
+    }
+
+private:
+    friend class editor;
+    using hold::hold;
+};
+
+/* Reads and raises the event counter of a node's slot. */
+class post {
+public:
+    void notify() { must(kt_notify(own_.get())); }
+    std::uint64_t event()
+    {
+        std::uint64_t number = 0;
+        must(kt_event(own_.get(), &number));
+        return number;
+    }
+
+private:
+    friend class editor;
+    handle own_;
+};
+
+/* The tree's lock, and the calls that are made under it. Each throws what kernfs_tree.h says it fails with. */
+class editor {
+public:
+    editor(editor &&) = default;
+    editor &operator=(editor &&) = default;
+    void lock() { guard_.lock(); }
+    void unlock() { guard_.unlock(); }
+    kernfs::key root() { return made([&](key *out) { return kt_root(at(), out); }); }
+    key create_dir(key parent, std::string_view name, bool live = true)
+    {
+        return made([&](key *out) { return kt_create_dir(at(), parent, name.data(), name.size(), live, out); });
+    }
+    key create_file(key parent, std::string_view name, std::uint16_t mode, std::uint64_t tag, bool live = true)
+    {
+        return made(
+            [&](key *out) { return kt_create_file(at(), parent, name.data(), name.size(), mode, tag, live, out); });
+    }
+    key create_link(key parent, std::string_view name, key target, bool live = true)
+    {
+        return made([&](key *out) { return kt_create_link(at(), parent, name.data(), name.size(), target, live, out); });
+    }
+    void activate(key of) { must(kt_activate(at(), of)); }
+    void rename(key of, key dir, std::string_view name) { must(kt_rename(at(), of, dir, name.data(), name.size())); }
+    key find(key dir, std::string_view name)
+    {
+        return made([&](key *out) { return kt_find(at(), dir, name.data(), name.size(), out); });
+    }
+    key walk(std::string_view path)
+    {
+        return made([&](key *out) { return kt_walk(at(), path.data(), path.size(), out); });
+    }
+    node_info stat(key of)
+    {
+        node_info out{};
+        must(kt_stat(at(), of, &out));
+        return out;
+    }
+    key parent(key of) { return made([&](key *out) { return kt_parent(at(), of, out); }); }
+    std::string name(key of) { return text(KT_NAME_MAX, of, kt_name); }
+    std::string path(key of) { return text(KT_PAGE_SIZE, of, kt_path); }
+    std::string readlink(key of) { return text(KT_PAGE_SIZE, of, kt_readlink); }
+    /* The next live child after `child`, whose name is empty at first. False if there is no other. */
+    bool next(key dir, kt_child &child) { return must(kt_list(at(), dir, &child)) == 1; }
+    /* Whether this is the first to claim the node's removal. Everything below it is marked. */
+    bool claim(key of) { return must(kt_claim(at(), of)) == 0; }
+    /* Compacts the tree's log if it has 1,000 more than twice as many commands as the tree needs. */
+    void tidy()
+    {
+        struct kt_command_counts counts = {0, 0};
+        must(kt_commands(at(), &counts));
+        if (counts.stored >= 2 * counts.compacted + 1000)
+            must(kt_compact(at()));
+    }
+
+    kernfs::hold hold(key of)
+    {
+        return opened(kernfs::hold(lock_), [&](kt_handle *out) { return kt_hold(at(), of, out); });
+    }
+    kernfs::file open(key of, bool read, bool write)
+    {
+        return opened(kernfs::file(lock_), [&](kt_handle *out) { return kt_open(at(), of, read, write, out); });
+    }
+    kernfs::post post(key of)
+    {
+        return opened(kernfs::post(), [&](kt_handle *out) { return kt_event_open(at(), of, out); });
+    }
+
+private:
+    friend class tree;
+    editor(kt_handle *tree, std::shared_ptr<tree_lock> lock) : tree_(tree), lock_(std::move(lock)), guard_(*lock_) {}
+    kt_handle *at()
+    {
+        assert(guard_.owns_lock());
+        return tree_;
+    }
+    template <class Call> key made(Call &&makes)
+    {
+        key out{};
+        must(makes(&out));
+        return out;
+    }
+    template <class Made, class Call> Made opened(Made out, Call &&opens)
+    {
+        must(opens(out.own_.get()));
+        return out;
+    }
+    template <class Call> std::string text(std::size_t size, key of, Call *writes)
+    {
+        for (;; size *= 4) {
+            std::string out(size, '\0');
+            std::int64_t length = writes(at(), of, out.data(), size);
+            if (length == -ERANGE)
+                continue;
+            out.resize(static_cast<std::size_t>(must(length)));
+            return out;
+        }
+    }
+    kt_handle *tree_;
+    std::shared_ptr<tree_lock> lock_;
+    std::unique_lock<tree_lock> guard_;
+};
+
+class tree {
+public:
+    /* The maximum of nodes at once, with the root and those that are gone and still held; and of holds of one node. */
+    tree(std::uint32_t slots, std::uint32_t holds) : lock_(std::make_shared<tree_lock>())
+    {
+        must(kt_create_root(own_.get(), slots, holds));
+    }
+    [[nodiscard]] editor edit() { return editor(own_.get(), lock_); }
+
+    /* Removes a node and all below it, and waits until no callback runs there. True if this call took it out. */
+    bool remove_wait(key of) { return must(kt_remove_wait(own_.get(), of, lock_->unowned())) == 1; }
+    /* The same with a time limit. False if somebody is still inside: everything stays marked, and it is called again. */
+    bool remove_wait_for(key of, std::chrono::milliseconds limit)
+    {
+        auto removed = kt_remove_wait_for(own_.get(), of, lock_->unowned(), static_cast<unsigned>(limit.count()));
+        return removed != -ETIMEDOUT && must(removed) >= 0;
+    }
+    /* Removes a call's node, or one above it, from inside. True for the first that does so. */
+    bool remove_self_wait(call &inside, key of)
+    {
+        return must(kt_remove_self_wait(own_.get(), inside.raw_, of, lock_->unowned())) == 1;
+    }
+    void hide_wait(key of) { must(kt_hide_wait(own_.get(), of, lock_->unowned())); }
+    void unhide_wait(key of) { must(kt_unhide_wait(own_.get(), of, lock_->unowned())); }
+
+private:
+    std::shared_ptr<tree_lock> lock_;
+    handle own_;
+};
+
+} // namespace kernfs
+
+inline bool operator==(kt_key a, kt_key b) noexcept { return a.slot == b.slot && a.generation == b.generation; }
+inline bool operator!=(kt_key a, kt_key b) noexcept { return !(a == b); }
+template <> struct std::hash<kt_key> {
+    std::size_t operator()(kt_key of) const noexcept
+    {
+        return std::hash<std::uint64_t>()(std::uint64_t{of.slot} << 32 | of.generation);
+    }
+};
+
+#endif /* KERNFS_TREE_HPP */

@@ -1,0 +1,153 @@
+/* SPDX-License-Identifier: MIT OR Apache-2.0 */
+/* kt_order.h: what ThreadSanitizer's detector of deadlocks learns about programs that use kernfs_tree.h; kt_check.h
+ * includes this. To it a node is a lock, which a call has for reading and which a removal or a hiding takes for
+ * writing. So it reports this order, also in a run that does not hang, because the remover came after the callback:
+ *
+ *     callback: in a call of a node, locks a mutex          remover: has that mutex locked, and waits for the node
+ *
+ * It looks at kt_remove_wait(), kt_remove_self_wait(), kt_hide_wait() and kt_live_unpublish(), and not at waits with a
+ * time limit. If one of them waits for a node that its own thread is inside, the program is aborted with a message: it
+ * would wait for itself. If another thread leaves a call than the one that entered it, nothing is reported about it. */
+#include "kernfs_tree.h"
+#ifndef KT_ORDER_H
+#define KT_ORDER_H
+
+#ifdef KT_TSAN
+#include "kt_told.h"
+#include <stdlib.h>
+#ifdef __cplusplus
+extern "C" {
+#endif
+void __tsan_mutex_pre_lock(void *at, unsigned flags);
+void __tsan_mutex_post_lock(void *at, unsigned flags, int recursion);
+int __tsan_mutex_pre_unlock(void *at, unsigned flags);
+void __tsan_mutex_post_unlock(void *at, unsigned flags);
+/* for reading; and tried, so never waited for: nobody waits to enter */
+enum { KT_ORDER_READ = 1 << 3, KT_ORDER_TRIED = KT_ORDER_READ | 1 << 4, KT_ORDER_FAILED = 1 << 5, KT_ORDER_CALLS = 16 };
+
+/* A call that this thread is inside: the nodes that it is inside, and which of them it has locked here. */
+struct kt_order_call {
+    void *at;
+    uint64_t turn;
+    unsigned count, nodes[KT_TOLD_DEPTH];
+    unsigned locked; /* a bit for each of them */
+};
+struct kt_order_thread {
+    unsigned count;
+    struct kt_order_call calls[KT_ORDER_CALLS];
+};
+__attribute__((weak)) __thread struct kt_order_thread kt_order;
+/* A place that stands for a node: never read or written. */
+__attribute__((weak)) struct { uint64_t place, rest; } kt_order_places[KT_TOLD_NODES];
+
+KT_UNSEEN bool kt_order_has(const struct kt_order_call *call, unsigned node)
+{
+    for (unsigned i = 0; i < call->count; i++)
+        if (call->nodes[i] == node)
+            return true;
+    return false;
+}
+
+KT_UNSEEN void kt_order_lock(struct kt_order_call *call)
+{
+    for (unsigned i = 0; i < call->count; i++) {
+        void *place = &kt_order_places[call->nodes[i]];
+        call->locked |= 1u << i;
+        for (struct kt_order_call *it = kt_order.calls; it < call; it++)
+            if (kt_order_has(it, call->nodes[i]))
+                call->locked &= ~(1u << i); /* this thread has it already */
+        if (!(call->locked >> i & 1))
+            continue;
+        __tsan_mutex_pre_lock(place, KT_ORDER_TRIED);
+        __tsan_mutex_post_lock(place, KT_ORDER_TRIED, 0);
+    }
+}
+
+KT_UNSEEN void kt_order_unlock(struct kt_order_call *call)
+{
+    for (unsigned i = call->count; i--;) {
+        void *place = &kt_order_places[call->nodes[i]];
+        if (!(call->locked >> i & 1))
+            continue;
+        call->locked &= ~(1u << i);
+        __tsan_mutex_pre_unlock(place, KT_ORDER_READ);
+        __tsan_mutex_post_unlock(place, KT_ORDER_READ);
+    }
+}
+
+/* Forgets the calls that have ended, whichever thread ended them. */
+KT_UNSEEN void kt_order_prune(void)
+{
+    for (unsigned i = kt_order.count; i--;) {
+        struct kt_order_call *call = &kt_order.calls[i];
+        struct kt_told_handle *it = kt_told_find(call->at, false);
+        if (it && it->turn == call->turn)
+            continue;
+        kt_order_unlock(call);
+        for (unsigned k = i; k + 1 < kt_order.count; k++)
+            kt_order.calls[k] = kt_order.calls[k + 1];
+        kt_order.count--;
+    }
+}
+
+/* After a call was entered. (The root is no lock: nobody removes it.) */
+KT_UNSEEN void kt_order_entered(void *at)
+{
+    struct kt_told_handle *it = kt_told_find(at, false);
+    struct kt_order_call *call;
+    kt_order_prune();
+    if (!it || !it->count || kt_order.count == KT_ORDER_CALLS)
+        return;
+    call = &kt_order.calls[kt_order.count];
+    it->turn = __atomic_add_fetch(&kt_told.turns, 1, __ATOMIC_RELAXED);
+    call->at = at;
+    call->turn = it->turn;
+    call->count = it->count - 1;
+    for (unsigned i = 0; i < call->count; i++)
+        call->nodes[i] = it->nodes[i];
+    kt_order_lock(call);
+    kt_order.count++;
+}
+
+/* Before a call is left, broken or freed. */
+KT_UNSEEN void kt_order_left(void *at)
+{
+    struct kt_told_handle *it = kt_told_find(at, false);
+    if (it)
+        it->turn = 0;
+    kt_order_prune();
+}
+
+/* Before a wait for a node, without the tree's lock. If `aside`, this thread's own calls there are broken meanwhile. */
+KT_UNSEEN void kt_order_waits(const void *tree, struct kt_key key, bool aside)
+{
+    unsigned node = kt_told_place(tree, key);
+    kt_order_prune();
+    for (unsigned i = kt_order.count; i--;) {
+        if (!kt_order_has(&kt_order.calls[i], node))
+            continue;
+        if (!aside) {
+            fprintf(stderr, "kernfs_tree: a callback waits for the removal or hiding of a node that it is inside\n");
+            abort();
+        }
+        kt_order_unlock(&kt_order.calls[i]);
+    }
+    __tsan_mutex_pre_lock(&kt_order_places[node], 0);
+    __tsan_mutex_post_lock(&kt_order_places[node], KT_ORDER_FAILED, 0); /* (others may have it for reading) */
+    for (unsigned i = 0; i < kt_order.count; i++)
+        if (kt_order_has(&kt_order.calls[i], node))
+            kt_order_lock(&kt_order.calls[i]);
+}
+#ifdef __cplusplus
+}
+#endif
+#else
+static inline void kt_order_entered(void *at) { (void)at; }
+static inline void kt_order_left(void *at) { (void)at; }
+static inline void kt_order_waits(const void *tree, struct kt_key key, bool aside)
+{
+    (void)tree, (void)key, (void)aside;
+}
+#endif
+
+#endif /* KT_ORDER_H */

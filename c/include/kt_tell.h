@@ -1,0 +1,150 @@
+/* SPDX-License-Identifier: MIT OR Apache-2.0 */
+/* kt_tell.h: error texts and a tree dump for programs that use kernfs_tree.h, which includes this. It is C over the
+ * calls there, tested, not proved. What takes a tree is called under its lock. */
+#include "kernfs_tree.h"
+#ifndef KT_TELL_H
+#define KT_TELL_H
+
+#include <stdio.h>
+#include <string.h>
+
+/* What a negative result means, as a text without a newline; for other numbers too. */
+static inline const char *kt_strerror(int64_t answer)
+{
+    switch (answer) {
+    case -EACCES:
+        return "the mode of the file, or how it was opened, does not allow it";
+    case -EAGAIN:
+        return "it has begun, and somebody is inside: call again when a callback has left";
+    case -EBADF:
+        return "no descriptor of a watch here";
+    case -EBUSY:
+        return "in use: a file is being hidden, or others came between";
+    case -EEXIST:
+        return "the name is taken";
+    case -EINVAL:
+        return "what lies behind the handle, the kind of node, a name, a path or a number does not fit the call";
+    case -EIO:
+        return "an input or output failed, or the program made this file by other calls";
+    case -EISDIR:
+        return "it is a directory";
+    case -EMFILE:
+        return "the node has as many holds as there may be";
+    case -ENAMETOOLONG:
+        return "a name has more than 255 bytes";
+    case -ENODEV:
+        return "the node is not live: not activated, hidden, or being removed";
+    case -ENOENT:
+        return "no such node, or it is being removed";
+    case -ENOMEM:
+        return "no memory";
+    case -ENOSPC:
+        return "the tree has no free slot";
+    case -ENOTDIR:
+        return "it is no directory";
+    case -EOVERFLOW:
+        return "the event number is at its end";
+    case -ERANGE:
+        return "the room is too small";
+    case -ETIMEDOUT:
+        return "somebody was inside all that time";
+    default:
+        return answer < 0 ? "an error that the library does not answer" : "done";
+    }
+}
+
+/* A child of a directory. */
+struct kt_child {
+    char name[KT_NAME_MAX + 1]; /* with a zero byte after it */
+    struct kt_key key;
+    uint32_t kind; /* enum kt_kind */
+    uint16_t mode; /* of a file */
+};
+
+/* The live children of a directory one after another, in byte order, by kt_next(). `at` is the cursor and the result:
+ * its name is empty at first, then the last name. The lock may be released between two calls.
+ *
+ *     struct kt_child at = {.name = ""};
+ *     while (kt_list(tree, dir, &at) == 1)
+ *         puts(at.name);
+ *
+ * 1; 0 at the end; -ENOENT, -ENOTDIR, -ENOMEM. Unless it returns 1, `at` is as it was. */
+static inline int32_t kt_list(struct kt_handle *tree, struct kt_key dir, struct kt_child *at)
+{
+    char name[KT_NAME_MAX];
+    struct kt_node_info stat;
+    struct kt_key key;
+    int64_t length;
+    int32_t answer = kt_stat(tree, dir, &stat);
+    if (answer)
+        return answer;
+    length = kt_next(tree, dir, at->name, strlen(at->name), name, sizeof name);
+    if (length < 0)
+        return length == -ENOENT ? 0 : (int32_t)length;
+    answer = kt_find(tree, dir, name, (size_t)length, &key);
+    if (!answer)
+        answer = kt_stat(tree, key, &stat);
+    if (answer)
+        return answer;
+    memcpy(at->name, name, (size_t)length);
+    at->name[length] = 0;
+    at->key = key;
+    at->kind = stat.kind;
+    at->mode = stat.mode;
+    return 1;
+}
+
+/* For kt_dump(): the line of a node. */
+static inline int32_t kt_dump_line(struct kt_handle *tree, const struct kt_child *at, int depth, FILE *out)
+{
+    struct kt_node_info stat;
+    struct kt_child to;
+    int64_t length;
+    int32_t answer = kt_stat(tree, at->key, &stat);
+    if (answer)
+        return answer;
+    fprintf(out, "%*s%s", 2 * depth, "", at->name);
+    if (stat.kind == KT_DIR)
+        fprintf(out, "/\n");
+    else if (stat.kind == KT_FILE)
+        fprintf(out, " 0%o tag %llu\n", (unsigned)stat.mode, (unsigned long long)stat.tag);
+    else if ((length = kt_name(tree, stat.target, to.name, KT_NAME_MAX)) >= 0)
+        fprintf(out, " -> %.*s, slot %lu\n", (int)length, to.name, (unsigned long)stat.target.slot);
+    else
+        fprintf(out, " -> what is gone\n");
+    return 0;
+}
+
+/* Writes the live nodes below a directory, a line each, indented below its directory's: a directory with a slash, a
+ * file with its mode and tag, a link with its target's name and slot. 0, -ENOENT, -ENOTDIR, -ENOMEM. */
+static inline int32_t kt_dump(struct kt_handle *tree, struct kt_key top, FILE *out)
+{
+    struct kt_key dir = top;
+    struct kt_child at;
+    int depth = 0;
+    int64_t answer;
+    at.name[0] = 0;
+    for (;;) {
+        answer = kt_list(tree, dir, &at);
+        if (answer == 1) {
+            answer = kt_dump_line(tree, &at, depth, out);
+            if (!answer && at.kind == KT_DIR) {
+                dir = at.key;
+                at.name[0] = 0;
+                depth++;
+            }
+        } else if (!answer && depth--) { /* no more: on behind this directory, in the one above it */
+            answer = kt_name(tree, dir, at.name, KT_NAME_MAX);
+            if (answer >= 0) {
+                at.name[answer] = 0;
+                answer = kt_parent(tree, dir, &dir);
+            }
+        } else {
+            return (int32_t)answer;
+        }
+        if (answer < 0)
+            return (int32_t)answer;
+    }
+}
+
+#endif /* KT_TELL_H */

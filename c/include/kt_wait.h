@@ -1,0 +1,364 @@
+/* SPDX-License-Identifier: MIT OR Apache-2.0 */
+/* kt_wait.h: a lock for a tree, and calls that take it and may sleep. kernfs_tree.h includes this, unless KT_NO_PTHREAD
+ * is defined. It is C over the calls there: tested, not proved.
+ *
+ * To call kernfs_tree.h on a tree, take the lock with pthread_mutex_lock(&lock.mutex). Of the calls here, a thread that
+ * has the lock may call only kt_remove_claimed(). Nothing checks this: kt_remove_wait() and the like would wait for
+ * ever, and so would the others, also kt_run(), kt_read() and kt_poll(), once their node is gone.
+ *
+ * Threads that end: a thread that is cancelled (pthread_cancel()) while it waits here has unlocked the lock. What it
+ * began stays begun: a node that was to be removed is marked, and another kt_remove_wait() ends it. Only after
+ * kt_claim() cancelling is put off until the node is out. If a thread is cancelled in a callback or ends there by
+ * pthread_exit(), or if a C++ exception leaves the callback, its call is left as if it had returned. Do not cancel
+ * asynchronously, and let no longjmp() leave a callback. A thread that ends keeps its holds: clear them before, since a
+ * hold keeps its slot from being reused, and a call that nobody leaves keeps each removal waiting.
+ *
+ * fork(): the child of a program with threads must not use the tree. Calls of the parent's other threads are inside for
+ * ever in the child, and one of those threads may have had the lock. */
+#include "kernfs_tree.h"
+#ifndef KT_WAIT_H
+#define KT_WAIT_H
+
+#include <poll.h>
+#include <pthread.h>
+#include <time.h>
+
+/* The lock of a tree, and the condition for which its removals and hidings wait. A removal that waits sets `is_asked`:
+ * then the next release of a hold wakes it as well. */
+struct kt_lock {
+    pthread_mutex_t mutex;
+    pthread_cond_t left;
+    bool is_asked;
+};
+
+#define KT_LOCK_INIT { PTHREAD_MUTEX_INITIALIZER, PTHREAD_COND_INITIALIZER, false }
+
+/* The same for a lock in memory that is allocated later. When the lock ends, no thread may have it or wait in it. 0, or
+ * a negative errno of pthread_mutex_init() or pthread_cond_init(). */
+KT_CALL(1)
+static inline int32_t kt_lock_init(struct kt_lock *lock)
+{
+    int answer = pthread_mutex_init(&lock->mutex, NULL);
+    lock->is_asked = false;
+    if (answer)
+        return -answer;
+    answer = pthread_cond_init(&lock->left, NULL);
+    if (answer)
+        pthread_mutex_destroy(&lock->mutex);
+    return -answer;
+}
+
+static inline void kt_lock_destroy(struct kt_lock *lock)
+{
+    pthread_cond_destroy(&lock->left);
+    pthread_mutex_destroy(&lock->mutex);
+}
+
+/* Wakes the threads that wait in a removal or a hiding. It takes the lock, so that no wake comes between a look and the
+ * sleep after it. */
+static inline void kt_wake(struct kt_lock *lock)
+{
+    pthread_mutex_lock(&lock->mutex);
+    __atomic_store_n(&lock->is_asked, false, __ATOMIC_SEQ_CST);
+    pthread_cond_broadcast(&lock->left);
+    pthread_mutex_unlock(&lock->mutex);
+}
+
+/* Under the lock, after kt_remove() has returned -EAGAIN: whether to sleep now. A removal needs a hold of each node for
+ * a moment, and waits if a node has the maximum of holds. So the thread first asks kt_clear_wake() for a wake, and then
+ * calls kt_remove() once more: that call finds what was released before, and a later release wakes the thread. */
+static inline bool kt_may_sleep(struct kt_lock *lock)
+{
+    return __atomic_exchange_n(&lock->is_asked, true, __ATOMIC_SEQ_CST);
+}
+
+/* kt_enter(), kt_leave() and kt_break(), with the wakes that are due after them. */
+KT_CALL(1, 2)
+static inline int32_t kt_enter_wake(struct kt_handle *hold, struct kt_lock *lock)
+{
+    int32_t answer = kt_enter(hold);
+    if (answer == -ENODEV)
+        kt_wake(lock);
+    return answer;
+}
+
+static inline int32_t kt_leave_wake(struct kt_handle *call, struct kt_lock *lock)
+{
+    int32_t answer = kt_leave(call);
+    if (answer != 1)
+        return answer;
+    kt_wake(lock);
+    return 0;
+}
+
+static inline int32_t kt_break_wake(struct kt_handle *call, struct kt_lock *lock)
+{
+    int32_t answer = kt_break(call);
+    if (answer != 1)
+        return answer;
+    kt_wake(lock);
+    return 0;
+}
+
+/* Frees what is behind a handle, with the wake that may be due: to threads that wait for the end of a call, and to a
+ * removal that waits for a place because a node has the maximum of holds. 0, or -EBUSY as kt_clear(). */
+static inline int32_t kt_clear_wake(struct kt_handle *handle, struct kt_lock *lock)
+{
+    int32_t answer = kt_clear(handle);
+    if (answer == 1 || (!answer && __atomic_load_n(&lock->is_asked, __ATOMIC_SEQ_CST)))
+        kt_wake(lock);
+    return answer < 0 ? answer : 0;
+}
+
+/* (What a thread that is cancelled in a wait does with the lock, which it then has.) */
+static inline void kt_unlock_of(void *lock)
+{
+    pthread_mutex_unlock(&((struct kt_lock *)lock)->mutex);
+}
+
+/* Calls kt_remove(), kt_hide() or kt_unhide() until it returns something other than -EAGAIN, or, unless `until` is NULL,
+ * until that time: then it returns -ETIMEDOUT. */
+static inline int32_t kt_until_done(int32_t (*step)(struct kt_handle *tree, struct kt_key key), struct kt_handle *tree,
+                                    struct kt_key key, struct kt_lock *lock, const struct timespec *until)
+{
+    int32_t answer;
+    pthread_mutex_lock(&lock->mutex);
+    pthread_cleanup_push(kt_unlock_of, lock);
+    for (int waited = 0; (answer = step(tree, key)) == -EAGAIN && waited != ETIMEDOUT;)
+        if (kt_may_sleep(lock))
+            waited = until ? pthread_cond_timedwait(&lock->left, &lock->mutex, until)
+                           : pthread_cond_wait(&lock->left, &lock->mutex);
+    pthread_cleanup_pop(1);
+    return answer == -EAGAIN ? -ETIMEDOUT : answer;
+}
+
+/* Removes a node and everything below it, and waits until no callback runs there (kernfs_remove). A callback that
+ * removes its own node or one above calls kt_remove_self_wait() instead. Returns what kt_remove() returns, but never
+ * -EAGAIN: of the threads that wait for one node, one gets 1 and the others 0. After -ENOMEM, which may come when
+ * everything is marked, call it again. */
+KT_CALL(1, 3)
+static inline int32_t kt_remove_wait(struct kt_handle *tree, struct kt_key key, struct kt_lock *lock)
+{
+    kt_order_waits(tree->at, key, false);
+    return kt_until_done(kt_remove, tree, key, lock, NULL);
+}
+
+#if defined(TIME_UTC) || defined(CLOCK_REALTIME)
+/* The time of the system's clock that many milliseconds from now. */
+static inline struct timespec kt_time_in(unsigned milliseconds)
+{
+    struct timespec at;
+#ifdef CLOCK_REALTIME
+    clock_gettime(CLOCK_REALTIME, &at);
+#else
+    timespec_get(&at, TIME_UTC);
+#endif
+    at.tv_sec += (time_t)(milliseconds / 1000);
+    at.tv_nsec += (long)(milliseconds % 1000) * 1000000;
+    if (at.tv_nsec >= 1000000000) {
+        at.tv_sec++;
+        at.tv_nsec -= 1000000000;
+    }
+    return at;
+}
+
+/* The same with a time limit, by the system's clock, so that a daemon can report what it waits for. -ETIMEDOUT if
+ * somebody is still inside then: everything is marked and stays so, and nobody can enter; call it again. (It needs C11,
+ * C++17 or POSIX; <time.h> defines these names then.) */
+KT_CALL(1, 3)
+static inline int32_t kt_remove_wait_for(struct kt_handle *tree, struct kt_key key, struct kt_lock *lock,
+                                         unsigned milliseconds)
+{
+    struct timespec until = kt_time_in(milliseconds);
+    return kt_until_done(kt_remove, tree, key, lock, &until);
+}
+#endif
+
+/* Hides a file, and waits until no callback runs there (kernfs_show() with false). A callback of the file breaks its
+ * protection first. Returns what kt_hide() returns, but never -EAGAIN. */
+KT_CALL(1, 3)
+static inline int32_t kt_hide_wait(struct kt_handle *tree, struct kt_key key, struct kt_lock *lock)
+{
+    kt_order_waits(tree->at, key, false);
+    return kt_until_done(kt_hide, tree, key, lock, NULL);
+}
+
+/* Shows a file again. Returns what kt_unhide() returns, but never -EAGAIN. It takes the lock and waits, because the
+ * thread that hid the file may not have waited until nobody was inside. */
+KT_CALL(1, 3)
+static inline int32_t kt_unhide_wait(struct kt_handle *tree, struct kt_key key, struct kt_lock *lock)
+{
+    return kt_until_done(kt_unhide, tree, key, lock, NULL);
+}
+
+/* Under the lock: takes out what kt_claim() has marked, and waits until it is out. It asks for memory again and again
+ * if it needs some, and puts off that its thread is cancelled, because what is claimed cannot stay. Returns what
+ * kt_remove() returns, but never -EAGAIN or -ENOMEM. */
+static inline int32_t kt_remove_claimed(struct kt_handle *tree, struct kt_key key, struct kt_lock *lock)
+{
+    int32_t answer;
+    int before = 0;
+    pthread_setcancelstate(PTHREAD_CANCEL_DISABLE, &before);
+    while ((answer = kt_remove(tree, key)) == -EAGAIN || answer == -ENOMEM) {
+        if (answer == -EAGAIN) {
+            if (kt_may_sleep(lock))
+                pthread_cond_wait(&lock->left, &lock->mutex);
+            continue;
+        }
+        pthread_mutex_unlock(&lock->mutex);
+        poll(NULL, 0, 10);
+        pthread_mutex_lock(&lock->mutex);
+    }
+    pthread_setcancelstate(before, NULL);
+    return answer;
+}
+
+/* Removes a call's node, or `key` above it, from inside its callback (kernfs_remove_self), and waits for every other
+ * callback there. The call must be running, with its protection. It claims the node first, and then breaks the
+ * protection. It returns when the node is out and the call has its protection again: 1 for the first call that claimed
+ * the node, 0 for each other one, or if the node was gone. 1 does not say that other callbacks there that broke their
+ * protection have returned: see "Freeing what callbacks use" in kernfs_tree.h.
+ *
+ * A negative errno as for kt_claim(), also -ENOMEM, and then nothing has changed, so the same callback may try again;
+ * or -EINVAL if the call is not running or is broken: then the node is marked, and kt_remove() removes it. -ENOENT only
+ * for a key that this tree never gave out. */
+KT_CALL(1, 2, 4)
+static inline int32_t kt_remove_self_wait(struct kt_handle *tree, struct kt_handle *call, struct kt_key key,
+                                          struct kt_lock *lock)
+{
+    int32_t claimed, answer;
+    kt_order_waits(tree->at, key, true);
+    pthread_mutex_lock(&lock->mutex);
+    claimed = kt_claim(tree, key);
+    if (claimed >= 0) {
+        answer = kt_break(call);
+        if (answer == 1)
+            pthread_cond_broadcast(&lock->left);
+        if (answer >= 0) {
+            answer = kt_remove_claimed(tree, key, lock);
+            kt_restore(call);
+        }
+    } else {
+        answer = claimed == -ENOENT ? kt_remove(tree, key) : claimed; /* 0 where it was gone */
+    }
+    pthread_mutex_unlock(&lock->mutex);
+    return answer < 0 ? answer : claimed == 0;
+}
+
+/* Leaves a call. If the call is broken, it is restored first. */
+static inline void kt_end_wake(struct kt_handle *call, struct kt_lock *lock)
+{
+    if (kt_leave_wake(call, lock) == -EINVAL) {
+        kt_restore(call);
+        kt_leave_wake(call, lock);
+    }
+}
+
+/* What ends a call if its callback does not return. */
+struct kt_ending {
+    struct kt_handle *call;
+    struct kt_lock *lock;
+};
+static inline void kt_end_of(void *data)
+{
+    struct kt_ending *it = (struct kt_ending *)data;
+    kt_end_wake(it->call, it->lock);
+}
+
+/* What runs under a call. It may break and restore the call; a call that it leaves broken is restored. It may end the
+ * handle's call with kt_clear(), but not free the handle. No longjmp() may leave it. */
+typedef int64_t kt_callback(struct kt_handle *call, void *data);
+
+/* Runs a callback under a call of a hold. 0, and `out` gets what the callback returned; or the error of kt_enter(), and
+ * the callback did not run. */
+KT_CALL(1, 2, 3, 5)
+static inline int32_t kt_run_into(struct kt_handle *hold, struct kt_lock *lock, kt_callback *callback, void *data,
+                                  int64_t *out)
+{
+    struct kt_ending ending;
+    int32_t answer = kt_enter_wake(hold, lock);
+    if (answer)
+        return answer;
+    ending.call = hold;
+    ending.lock = lock;
+    pthread_cleanup_push(kt_end_of, &ending);
+    *out = callback(hold, data);
+    pthread_cleanup_pop(1);
+    return 0;
+}
+
+/* The same, if it does not matter whether an error is the callback's: what the callback returned, or kt_enter(). */
+static inline int64_t kt_run(struct kt_handle *hold, struct kt_lock *lock, kt_callback *callback, void *data)
+{
+    int64_t out = 0;
+    int32_t answer = kt_run_into(hold, lock, callback, data, &out);
+    return answer ? answer : out;
+}
+
+/* Shows into the page. Returns the number of bytes (more than its 4,096 are cut), or a negative errno. */
+typedef int64_t kt_show(struct kt_handle *file, void *data, char *page);
+
+/* Takes 1 to 4,096 bytes. Returns the number of bytes that it took, or a negative errno. */
+typedef int64_t kt_store(struct kt_handle *file, void *data, const char *bytes, size_t length);
+
+/* Runs the show of a file that was entered for it, and keeps its text. 0, or the error of show. */
+static inline int64_t kt_show_into(struct kt_handle *file, struct kt_lock *lock, kt_show *show, void *data)
+{
+    char page[KT_PAGE_SIZE];
+    struct kt_ending ending;
+    int64_t length;
+    ending.call = file;
+    ending.lock = lock;
+    pthread_cleanup_push(kt_end_of, &ending);
+    length = show(file, data, page);
+    if (length >= 0)
+        kt_shown(file, page, length < KT_PAGE_SIZE ? (size_t)length : KT_PAGE_SIZE);
+    pthread_cleanup_pop(1);
+    return length < 0 ? length : 0;
+}
+
+/* Reads an open file (kernfs_fop_read_iter). Returns the number of bytes; -EACCES, -ENODEV, or the error of show. */
+static inline int64_t kt_read(struct kt_handle *file, struct kt_lock *lock, uint64_t offset, void *out, size_t size,
+                              kt_show *show, void *data)
+{
+    int64_t begun = kt_begin_read(file, offset);
+    if (begun == -ENODEV)
+        kt_wake(lock);
+    if (begun == 1)
+        begun = kt_show_into(file, lock, show, data);
+    return begun < 0 ? begun : kt_copy(file, offset, out, size);
+}
+
+/* Writes to an open file (kernfs_fop_write_iter). Returns what the store returns; 0 for no bytes, and then there is no
+ * store; -EACCES, -ENODEV. */
+static inline int64_t kt_write(struct kt_handle *file, struct kt_lock *lock, const char *bytes, size_t length,
+                               kt_store *store, void *data)
+{
+    struct kt_ending ending;
+    int64_t answer = kt_begin_write(file);
+    if (answer == -ENODEV)
+        kt_wake(lock);
+    if (answer)
+        return answer;
+    ending.call = file;
+    ending.lock = lock;
+    pthread_cleanup_push(kt_end_of, &ending);
+    if (length)
+        answer = store(file, data, bytes, length < KT_PAGE_SIZE ? length : KT_PAGE_SIZE);
+    pthread_cleanup_pop(1);
+    return answer;
+}
+
+/* Whether an open file has changed since its last show, was never shown, or its node is not live (kernfs_fop_poll): 1
+ * or 0. */
+static inline int32_t kt_poll(struct kt_handle *file, struct kt_lock *lock)
+{
+    int32_t changed, entered = kt_enter_wake(file, lock);
+    if (entered)
+        return entered == -ENODEV ? 1 : entered;
+    changed = kt_changed(file);
+    kt_end_wake(file, lock);
+    return changed;
+}
+
+#endif /* KT_WAIT_H */
