@@ -18,9 +18,9 @@ use std::alloc::Global;
 /// The version of the library: its major number times 1,000, and its minor number.
 #[unsafe(no_mangle)]
 pub extern "C" fn kt_version() -> i32
-    ensures { result ≡ pos 3 }
+    ensures { result ≡ pos 4 }
 {
-    3
+    4
 }
 
 /// A new handle with nothing behind it, which is the caller's then.
@@ -306,7 +306,7 @@ pub extern "C" fn kt_hold(tree: &mut KtHandle, key: KtKey, out: &mut KtHandle) -
 
 /// A post of the slot of a node, behind a handle with nothing behind it.
 #[unsafe(no_mangle)]
-pub extern "C" fn kt_post(tree: &mut KtHandle, key: KtKey, out: &mut KtHandle) -> i32
+pub extern "C" fn kt_event_open(tree: &mut KtHandle, key: KtKey, out: &mut KtHandle) -> i32
     ensures posted { result ≡ pos 0 →
         HasPostOf tree.old.place.object (key_in key) out.new.place.object }
     ensures tree { IsSameTree tree.old.place.object tree.new.place.object }

@@ -9,8 +9,8 @@ mod task_calls;
 
 pub use calls::{
     kt_activate, kt_clear, kt_commands, kt_compact, kt_create_dir, kt_create_file, kt_create_link,
-    kt_create_root, kt_delete, kt_event, kt_find, kt_hold, kt_name, kt_new, kt_next, kt_notify,
-    kt_parent, kt_path, kt_post, kt_readlink, kt_rename, kt_root, kt_stat, kt_version, kt_walk,
+    kt_create_root, kt_delete, kt_event, kt_event_open, kt_find, kt_hold, kt_name, kt_new, kt_next,
+    kt_notify, kt_parent, kt_path, kt_readlink, kt_rename, kt_root, kt_stat, kt_version, kt_walk,
 };
 pub use file_calls::{kt_begin_read, kt_begin_write, kt_changed, kt_copy, kt_open, kt_shown};
 pub use hold_calls::{kt_break, kt_dup, kt_enter, kt_leave, kt_restore};

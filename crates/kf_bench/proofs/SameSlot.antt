@@ -3,8 +3,8 @@ use Rattle.std.proofs.Common.{◌≡◌, ℕ, Bool, true, false, List, Option, N
 use Rattle.kf_core.specs.Calls.{tried}
 use Rattle.kf_words.specs.Callers.{Handle}
 use Rattle.kf_notify.specs.PostStates.{PostState, Took}
-use Rattle.kf_files.specs.declared.ops.FileError.{FileError}
-use Rattle.kf_files.specs.Files.{Reads, FileState, ShowResult}
+use Rattle.kf_pages.specs.declared.ops.FileError.{FileError}
+use Rattle.kf_pages.specs.Files.{Reads, FileState, ShowResult}
 use Rattle.kf_files.specs.Waiting.{WaitVisits}
 
 took_slot : (hold hold' : Handle) (old new : PostState) (does : ShowResult → Type 0) (came : Option ShowResult)

@@ -2,23 +2,24 @@
 use Rattle.std.specs.Prelude.{◌≡◌, ◌⊎◌, ℕ, List, length, decimal, Option, None, Some, Result, Ok, Err, IfErr, MatchResult}
 use Rattle.kf_core.specs.declared.refusal.Refusal.{Refusal}
 use Rattle.kf_core.specs.declared.refusal.Refusal.TheVariants.{NoMemory}
-use Rattle.kf_files.specs.declared.ops.Fault.{Fault}
+use Rattle.kf_pages.specs.declared.ops.Fault.{Fault}
 use Rattle.kf_device.specs.declared.tags.DeviceFile.{DeviceFile}
 use Rattle.kf_device.specs.declared.tags.DeviceFile.TheVariants.{Value, Serial, Delete}
 use Rattle.kf_device.specs.declared.tags.DeviceTag.{DeviceTag}
-use Rattle.kf_device.specs.Faults.{unknown, fault_of}
+use Rattle.kf_device.specs.Faults.{fault_of}
+use Rattle.kf_pages.specs.Files.{unknown_tag}
 use Rattle.kf_device.specs.Tags.{meaning}
 
 -- a value is shown, or the bus keeps none; a serial is shown in decimal, or no such plug has begun;
 -- `delete` has no text
 abbrev pub ShowsFile : DeviceFile → ℕ → Result (List ℕ) Fault → Type 0
-ShowsFile Value serial answer = IfErr answer (λ fault. fault ≡ unknown)
-ShowsFile Serial serial answer = (answer ≡ Ok (decimal serial)) ⊎ (answer ≡ Err unknown)
-ShowsFile Delete serial answer = answer ≡ Err unknown
+ShowsFile Value serial answer = IfErr answer (λ fault. fault ≡ unknown_tag)
+ShowsFile Serial serial answer = (answer ≡ Ok (decimal serial)) ⊎ (answer ≡ Err unknown_tag)
+ShowsFile Delete serial answer = answer ≡ Err unknown_tag
 
 -- what a show may give, by what the tag means: a tag without a meaning is unknown
 abbrev pub ShowsMeant : Option DeviceTag → Result (List ℕ) Fault → Type 0
-ShowsMeant None answer = answer ≡ Err unknown
+ShowsMeant None answer = answer ≡ Err unknown_tag
 ShowsMeant (Some tag) answer = ShowsFile tag.file tag.serial answer
 
 -- what a show may fill or return, by tag
@@ -31,7 +32,7 @@ TakesAll MayFail bytes answer = MatchResult answer (λ count. count ≡ length b
 
 -- why a store of a value fails: the bus keeps none, or there was no memory
 abbrev pub ValueFault : Fault → Type 0
-ValueFault fault = (fault ≡ unknown) ⊎ (fault ≡ fault_of NoMemory)
+ValueFault fault = (fault ≡ unknown_tag) ⊎ (fault ≡ fault_of NoMemory)
 
 -- why a store of `delete` fails: the fault has the number of the refusal that was met
 abbrev pub DeleteFault : Fault → Type 0
@@ -40,12 +41,12 @@ DeleteFault fault = (refusal : Refusal) × (fault ≡ fault_of refusal)
 -- what a store may return, by the device's file
 abbrev pub StoresFile : DeviceFile → List ℕ → Result ℕ Fault → Type 0
 StoresFile Value bytes answer = TakesAll ValueFault bytes answer
-StoresFile Serial bytes answer = answer ≡ Err unknown
+StoresFile Serial bytes answer = answer ≡ Err unknown_tag
 StoresFile Delete bytes answer = TakesAll DeleteFault bytes answer
 
 -- what a store may return, by what the tag means
 abbrev pub StoresMeant : Option DeviceTag → List ℕ → Result ℕ Fault → Type 0
-StoresMeant None bytes answer = answer ≡ Err unknown
+StoresMeant None bytes answer = answer ≡ Err unknown_tag
 StoresMeant (Some tag) bytes answer = StoresFile tag.file bytes answer
 
 -- what a store may return, by tag

@@ -1,11 +1,7 @@
 -- Why a callback of a bus fails.
 use Rattle.kf_core.specs.declared.refusal.Refusal.{Refusal}
 use Rattle.kf_core.specs.Refusals.{number_of}
-use Rattle.kf_files.specs.declared.ops.Fault.{Fault}
-
--- the bus knows no such file, or keeps no text for it
-abbrev pub unknown : Fault
-unknown = record { number = 22 }
+use Rattle.kf_pages.specs.declared.ops.Fault.{Fault}
 
 -- a fault with the number of the refusal
 abbrev pub fault_of : Refusal → Fault

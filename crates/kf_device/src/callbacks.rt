@@ -3,8 +3,8 @@ ghost use Rattle.std.specs.Prelude.{◌≡◌, ◌≢◌, ◌<◌, ◌≤◌, []
 ghost use Rattle.kf_core.specs.Phases.{has_reference};
 ghost use Rattle.kf_core.specs.declared.caller.Phase.TheVariants.{Running, Restored};
 ghost use Rattle.kf_words.specs.Callers.{IsSameSeat};
-ghost use Rattle.kf_files.specs.Files.{filled_by};
-ghost use Rattle.kf_device.specs.Faults.{unknown};
+ghost use Rattle.kf_pages.specs.Files.{filled_by};
+ghost use Rattle.kf_pages.specs.Files.{unknown_tag};
 ghost use Rattle.kf_device.specs.Answers.{MayShow, MayStore, TakesAll, ValueFault};
 ghost use Rattle.kf_device.specs.Tags.{meaning, is_delete};
 
@@ -30,7 +30,7 @@ impl<N: Naming> Bus<N> {
     // Shows the value of a device.
     fn show_value<R: Wait>(&self, rt: &R, serial: u64, page: &mut Page) -> Result<(), Fault>
         requires empty { page.old.items ≡ [] }
-        ensures refused { IfErr result (λ fault. fault ≡ unknown) }
+        ensures refused { IfErr result (λ fault. fault ≡ unknown_tag) }
     {
         let devices = self.devices.lock(rt);
         match devices.value(serial) {
@@ -45,7 +45,8 @@ impl<N: Naming> Bus<N> {
     // Shows the number of a plug, in decimal.
     fn show_serial<R: Wait>(&self, rt: &R, serial: u64, page: &mut Page) -> Result<(), Fault>
         requires empty { page.old.items ≡ [] }
-        ensures shown { MatchResult result (λ _. page.new.items ≡ decimal serial) (λ fault. fault ≡ unknown) }
+        ensures shown { MatchResult result (λ _. page.new.items ≡ decimal serial)
+            (λ fault. fault ≡ unknown_tag) }
     {
         if !self.devices.lock(rt).has_begun(serial) {
             return Err(unknown());

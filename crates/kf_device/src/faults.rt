@@ -1,13 +1,14 @@
 //! Why a callback of a bus fails.
 ghost use Rattle.std.specs.Prelude.{◌≡◌};
-ghost use Rattle.kf_device.specs.Faults.{fault_of, unknown};
+ghost use Rattle.kf_device.specs.Faults.{fault_of};
+ghost use Rattle.kf_pages.specs.Files.{unknown_tag};
 
 use kf_core::Refusal;
 use kf_files::Fault;
 
 /// The bus knows no such file, or keeps no text for it.
 pub(crate) fn unknown() -> Fault
-    ensures value { result ≡ unknown }
+    ensures value { result ≡ unknown_tag }
 {
     Fault { number: 22 }
 }

@@ -10,7 +10,7 @@ use Rattle.kf_words.specs.Notes.{history_of}
 use Rattle.kf_shared.specs.Locked.{Locked, IsWhole, history}
 use Rattle.kf_shared.specs.Noted.{BeginsWith, tree_in, tree_of}
 use Rattle.kf_shared.specs.Sections.{IsTaken}
-use Rattle.kf_files.specs.declared.contents.Want.{Want}
+use Rattle.kf_pages.specs.declared.contents.Want.{Want}
 use Rattle.kf_files.specs.Opened.{Opened}
 use Rattle.kf_driver.specs.Opening.{OpenRefused, RefusedLocked}
 

@@ -12,8 +12,8 @@ use Rattle.kf_core.specs.Tree.{Tree}
 use Rattle.kf_words.specs.Callers.{Handle}
 use Rattle.kf_words.specs.declared.view.MasterView.{MasterView}
 use Rattle.kf_notify.specs.PostStates.{Numbers, IsNewPost}
-use Rattle.kf_files.specs.declared.contents.Want.{Want}
-use Rattle.kf_files.specs.Files.{Opens, allows, new_file, open_cause}
+use Rattle.kf_pages.specs.declared.contents.Want.{Want}
+use Rattle.kf_pages.specs.Files.{Opens, allows, new_file, open_cause}
 use Rattle.kf_files.specs.Waiting.{WaitVisits}
 use Rattle.kf_files.specs.Opened.{Opened}
 use Rattle.kf_tree.specs.Paths.{seen}

@@ -1,6 +1,6 @@
 -- Bytes at an offset of a buffer, or of an attribute of this many bytes.
 use Rattle.std.specs.Prelude.{◌≡◌, ◌+◌, ◌-◌, ◌++◌, ℕ, nat_lt, List, [], length, take, drop, Result, Ok, Err, MatchBool, min}
-use Rattle.kf_files.specs.declared.ops.Fault.{Fault}
+use Rattle.kf_pages.specs.declared.ops.Fault.{Fault}
 
 -- those of the bytes at an offset that are within this size
 abbrev pub within : ℕ → ℕ → List ℕ → List ℕ

@@ -16,8 +16,8 @@ use Rattle.kf_shared.specs.Locked.{Locked, history}
 use Rattle.kf_shared.specs.Noted.{tree_in}
 use Rattle.kf_words.specs.declared.note.Note.{Note}
 use Rattle.kf_notify.specs.PostStates.{PostState, Numbers, id_of, IsNewPost}
-use Rattle.kf_files.specs.declared.contents.Want.{Want}
-use Rattle.kf_files.specs.Files.{new_file, allows}
+use Rattle.kf_pages.specs.declared.contents.Want.{Want}
+use Rattle.kf_pages.specs.Files.{new_file, allows}
 use Rattle.kf_files.specs.Opened.{Opened}
 use Rattle.kf_looks.specs.Links.{IsLater}
 use Rattle.kf_live.specs.Lookers.{Onlooker, links_seen}

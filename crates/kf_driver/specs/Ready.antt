@@ -1,6 +1,6 @@
 -- What attributes that are ready to use show and take.
 use Rattle.std.specs.Prelude.{◌≡◌, ℕ, ℤ, List, [], ◌∷◌, Result, Ok, Err, ok_or}
-use Rattle.kf_files.specs.declared.ops.Fault.{Fault}
+use Rattle.kf_pages.specs.declared.ops.Fault.{Fault}
 use Rattle.kf_text.specs.Readings.{ReadSigned, ReadUnsigned, flag, line, number_of}
 use Rattle.kf_text.specs.Texts.{emitted, text_of}
 use Rattle.kf_text.specs.declared.not_read.NotRead.{NotRead}

@@ -1,13 +1,9 @@
 -- What a table's callbacks may return, and which attributes it has.
 use Rattle.std.specs.Prelude.{◌≡◌, ◌+◌, ℕ, Bool, List, [], ◌∷◌, length, Option, Result, Ok, Err, if◌then◌else◌}
 use denote.Ref.{Bor}
-use Rattle.kf_files.specs.declared.ops.Fault.{Fault}
+use Rattle.kf_pages.specs.declared.ops.Fault.{Fault}
 use Rattle.kf_groups.specs.declared.attribute.Attribute.{Attribute}
 use Rattle.kf_groups.specs.declared.attribute.Group.{Group}
-
--- the fault of a tag that no row has
-abbrev pub unknown : Fault
-unknown = record { number = 22 }
 
 -- the fault of a show without a callback for it, or of a store
 abbrev pub no_callback : Fault

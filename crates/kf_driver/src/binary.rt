@@ -1,10 +1,11 @@
 //! Binary attributes with their callbacks, one row for each.
 ghost use Rattle.std.specs.Prelude.{◌≡◌, ◌==◌, ◌-◌, ◌<◌, ◌≤◌, ℕ, Bool, true, false, List, ◌∷◌, length, Ok, Err, Result, IfOk, MatchBool};
-ghost use Rattle.kf_files.specs.declared.ops.Fault.{Fault};
-ghost use Rattle.kf_files.specs.Binary.{front_of};
-ghost use Rattle.kf_files.specs.Files.{is_writable, slice};
+ghost use Rattle.kf_pages.specs.declared.ops.Fault.{Fault};
+ghost use Rattle.kf_pages.specs.Binary.{front_of};
+ghost use Rattle.kf_pages.specs.Files.{is_writable, slice};
 ghost use Rattle.kf_driver.specs.Buffers.{GivesWithin, TakesWithin};
-ghost use Rattle.kf_driver.specs.Tables.{no_callback, unknown, visible_if};
+ghost use Rattle.kf_driver.specs.Tables.{no_callback, visible_if};
+ghost use Rattle.kf_pages.specs.Files.{unknown_tag};
 
 use crate::buffers::{read_from_buffer, write_to_buffer};
 use crate::table::{DriverTable, Rows, visible_if};
@@ -111,10 +112,10 @@ impl<A: BinaryCallbacks, B: Rows> Rows for BinaryRow<'_, A, B> {
 
 impl<A: BinaryCallbacks, B: DriverTable> DriverTable for BinaryRow<'_, A, B> {
     ghost may_show = { λ row tag filled. MatchBool (tag == 0)
-        (filled ≡ Err unknown) (B.may_show row.others (tag - 1) filled) };
+        (filled ≡ Err unknown_tag) (B.may_show row.others (tag - 1) filled) };
 
     ghost may_store = { λ row tag bytes answer. MatchBool (tag == 0)
-        (answer ≡ Err unknown) (B.may_store row.others (tag - 1) bytes answer) };
+        (answer ≡ Err unknown_tag) (B.may_store row.others (tag - 1) bytes answer) };
 
     ghost may_read_at = { λ row tag offset room answer. MatchBool (tag == 0)
         (GivesWithin (A.gives row.callbacks offset) row.size offset room answer)

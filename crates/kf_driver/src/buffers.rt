@@ -1,6 +1,6 @@
 //! A driver's own buffer, read and written at an offset.
 ghost use Rattle.std.specs.Prelude.{◌≡◌, ◌++◌, ◌≤◌, length, drop};
-ghost use Rattle.kf_files.specs.Files.{slice};
+ghost use Rattle.kf_pages.specs.Files.{slice};
 ghost use Rattle.kf_driver.specs.Buffers.{with_bytes, within};
 
 /// Puts the bytes of the buffer from the offset on into the front of `out`, and returns how many those are, 0

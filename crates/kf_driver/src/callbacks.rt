@@ -1,7 +1,7 @@
 //! What an attribute shows and what it stores.
 ghost use Rattle.std.specs.Prelude.{◌≡◌, ◌<◌, ◌≤◌, ℕ, Bool, true, false, List, [], length, Result, Err};
-ghost use Rattle.kf_files.specs.declared.ops.Fault.{Fault};
-ghost use Rattle.kf_files.specs.Files.{filled_by};
+ghost use Rattle.kf_pages.specs.declared.ops.Fault.{Fault};
+ghost use Rattle.kf_pages.specs.Files.{filled_by};
 ghost use Rattle.kf_driver.specs.Tables.{no_callback};
 
 use kf_files::{Fault, Page};

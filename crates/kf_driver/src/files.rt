@@ -1,7 +1,7 @@
 //! Files and events of nodes by their names.
 ghost use Rattle.std.specs.Prelude.{◌≡◌, ◌⊎◌, ℕ, IfOk, IfErr, MatchResult, Ok, true};
 ghost use Rattle.kf_core.specs.declared.key.Node.TheVariants.{File};
-ghost use Rattle.kf_files.specs.Files.{new_file, allows};
+ghost use Rattle.kf_pages.specs.Files.{new_file, allows};
 ghost use Rattle.kf_notify.specs.PostStates.{IsNewPost};
 ghost use Rattle.kf_tree.specs.Paths.{found};
 ghost use Rattle.kf_driver.specs.Opening.{file_at, IsPostAt, OpenedAt, OpenRefused, PostRefused, NotOpened, Notified, RaisedTo, FoundLast};

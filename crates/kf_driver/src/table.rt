@@ -1,10 +1,11 @@
 //! Attributes with their callbacks, one row for each.
 ghost use Rattle.std.specs.Prelude.{◌≡◌, ◌==◌, ◌+◌, ◌-◌, ◌^◌, ◌<◌, ◌≤◌, ◌++◌, ℕ, List, [], ◌∷◌, length, Result, Err, IfOk, MatchBool};
-ghost use Rattle.kf_files.specs.declared.ops.Fault.{Fault};
-ghost use Rattle.kf_files.specs.Binary.{front_of};
-ghost use Rattle.kf_files.specs.Files.{filled_by, is_readable, is_writable};
+ghost use Rattle.kf_pages.specs.declared.ops.Fault.{Fault};
+ghost use Rattle.kf_pages.specs.Binary.{front_of};
+ghost use Rattle.kf_pages.specs.Files.{filled_by, is_readable, is_writable};
 ghost use Rattle.kf_groups.specs.declared.attribute.Attribute.{Attribute};
-ghost use Rattle.kf_driver.specs.Tables.{TakesAll, numbered, unknown, visible_if};
+ghost use Rattle.kf_driver.specs.Tables.{TakesAll, numbered, visible_if};
+ghost use Rattle.kf_pages.specs.Files.{unknown_tag};
 
 use crate::callbacks::{Show, Store};
 use arrayvec::ArrayVec;
@@ -164,10 +165,10 @@ impl<A: Show + Store, B: DriverTable> DriverTable for Row<'_, A, B> {
         (B.may_store row.others (tag - 1) bytes answer) };
 
     ghost may_read_at = { λ row tag offset room answer. MatchBool (tag == 0)
-        (answer ≡ Err unknown) (B.may_read_at row.others (tag - 1) offset room answer) };
+        (answer ≡ Err unknown_tag) (B.may_read_at row.others (tag - 1) offset room answer) };
 
     ghost may_write_at = { λ row tag offset bytes answer. MatchBool (tag == 0)
-        (answer ≡ Err unknown) (B.may_write_at row.others (tag - 1) offset bytes answer) };
+        (answer ≡ Err unknown_tag) (B.may_write_at row.others (tag - 1) offset bytes answer) };
 
     fn show(&self, tag: u64, page: &mut Page) -> Result<(), Fault> {
         if tag == 0 {
@@ -200,13 +201,13 @@ impl<A: Show + Store, B: DriverTable> DriverTable for Row<'_, A, B> {
 }
 
 impl DriverTable for End {
-    ghost may_show = { λ _ _ filled. filled ≡ Err unknown };
+    ghost may_show = { λ _ _ filled. filled ≡ Err unknown_tag };
 
-    ghost may_store = { λ _ _ _ answer. answer ≡ Err unknown };
+    ghost may_store = { λ _ _ _ answer. answer ≡ Err unknown_tag };
 
-    ghost may_read_at = { λ _ _ _ _ answer. answer ≡ Err unknown };
+    ghost may_read_at = { λ _ _ _ _ answer. answer ≡ Err unknown_tag };
 
-    ghost may_write_at = { λ _ _ _ _ answer. answer ≡ Err unknown };
+    ghost may_write_at = { λ _ _ _ _ answer. answer ≡ Err unknown_tag };
 
     fn show(&self, _tag: u64, _page: &mut Page) -> Result<(), Fault> {
         Err(Fault { number: 22 })

@@ -11,6 +11,8 @@ mod fixtures;
 #[cfg(test)]
 mod groups;
 #[cfg(test)]
+mod notifier_tests;
+#[cfg(test)]
 mod row_tests;
 #[cfg(test)]
 mod steps;

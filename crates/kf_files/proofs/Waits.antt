@@ -2,11 +2,11 @@
 use Rattle.std.proofs.Common.{ℕ, List, None, Some, Option, Result, refl}
 use Rattle.kf_core.specs.Calls.{Visit, unvisited, tried, Visits}
 use Rattle.kf_words.specs.Callers.{Handle}
-use Rattle.kf_files.specs.declared.ops.FileError.{FileError}
+use Rattle.kf_pages.specs.declared.ops.FileError.{FileError}
 use Rattle.kf_core.specs.declared.key.Node.{Node}
 use Rattle.kf_core.specs.declared.refusal.Refusal.{Refusal}
-use Rattle.kf_files.specs.declared.contents.Want.{Want}
-use Rattle.kf_files.specs.Files.{FileState, Opens, Reads, ShowResult}
+use Rattle.kf_pages.specs.declared.contents.Want.{Want}
+use Rattle.kf_pages.specs.Files.{FileState, Opens, Reads, ShowResult}
 use Rattle.kf_files.specs.Waiting.{lets_in, turns_away, lets_go, call_view, WaitVisits}
 
 module _ {G Done : Type 0} {idle idle' : Type 0} {does does' : Done → Type 0} (guard guard' : G) (hold hold' : Handle) (rests : idle → idle') (did : (d : Done) → does d → does' d) where

@@ -1,15 +1,8 @@
--- What contracts see of an open file.
-use Rattle.std.specs.Prelude.{ℕ, Bool, true, false, List, Option, Some, None, IsSome, Result, Ok, Err}
-use Rattle.std.proofs.lemmas.Bool.{false≢true}
+-- What contracts see of an open file that has its post.
+use Rattle.std.specs.Prelude.{ℕ, Option, Some, None, Result, Ok, Err}
 use Rattle.kf_core.specs.declared.refusal.Refusal.{Refusal}
 use Rattle.kf_notify.specs.PostStates.{PostState}
-use Rattle.kf_files.specs.Files.{FileState}
-
--- an open file without its event numbers: the hold that it was opened with, its node's tag, and what it keeps
-pub record Held (Hold : Type 0) : Type 0 where
-  pub hold : Hold
-  pub tag : ℕ
-  pub state : FileState
+use Rattle.kf_pages.specs.Files.{FileState}
 
 -- an open file: the hold that it was opened with, its post, its node's tag, and what it keeps
 pub record Opened (Hold : Type 0) : Type 0 where
@@ -18,30 +11,10 @@ pub record Opened (Hold : Type 0) : Type 0 where
   pub tag : ℕ
   pub state : FileState
 
--- the hold that stands in its place
-abbrev pub hold_in : {Hold : Type 0} (place : Option Hold) → IsSome place → Hold
-hold_in (Some hold) there = hold
-hold_in None there = absurd (false≢true there)
-
--- the page's bytes, if they are a text
-abbrev pub text_in : Bool → List ℕ → Option (List ℕ)
-text_in true bytes = Some bytes
-text_in false bytes = None
-
--- why an open was refused. None: it was not
-abbrev pub held_refusal : {Hold Page : Type 0} → Result (Held Hold) (Hold × Page × Refusal) → Option Refusal
-held_refusal (Ok file) = None
-held_refusal (Err back) = Some back.2
-
 -- why an open was refused, if it was
 abbrev pub refusal_of : {Hold : Type 0} → Result (Opened Hold) (Hold × PostState × Refusal) → Option Refusal
 refusal_of (Ok file) = None
 refusal_of (Err back) = Some back.2
-
--- the hold after an open, in the file or given back
-abbrev pub held_after : {Hold Page : Type 0} → Result (Held Hold) (Hold × Page × Refusal) → Hold
-held_after (Ok file) = file.hold
-held_after (Err back) = back.0
 
 -- the hold after an open: in the file, or given back
 abbrev pub hold_after : {Hold : Type 0} → Result (Opened Hold) (Hold × PostState × Refusal) → Hold

@@ -4,8 +4,8 @@ use Rattle.kf_core.specs.Calls.{CallView, Visit, Visits}
 use Rattle.kf_words.specs.Callers.{Handle, SeatId, id_of, seat_view, IsSameSeat, Entered, WasTurned, WasLeft}
 use Rattle.kf_words.specs.Layout.{keeps_out}
 use Rattle.kf_words.specs.Runs.{WasLetInLive, WasATryUndoneThenWake, WasALeaveThenWake}
-use Rattle.kf_files.specs.declared.ops.Fault.{Fault}
-use Rattle.kf_files.specs.Binary.{front_of}
+use Rattle.kf_pages.specs.declared.ops.Fault.{Fault}
+use Rattle.kf_pages.specs.Binary.{front_of}
 use Rattle.kf_files.specs.Opened.{Opened}
 
 module _ {G : Type 0} where

@@ -3,17 +3,14 @@
 ghost use Rattle.std.specs.Prelude.{◌≡◌, ◌≤◌, length, IfOk, MatchResult};
 ghost use Rattle.kf_core.specs.Calls.{Visits};
 ghost use Rattle.kf_notify.specs.PostStates.{Took};
-ghost use Rattle.kf_files.specs.Files.{Opens, Reads, Writes, Polls, Gives, Stored, new_file, tag_of};
-ghost use Rattle.kf_files.specs.Binary.{ReadAt, ReadsAt, WrittenAt};
+ghost use Rattle.kf_pages.specs.Files.{Opens, Reads, Writes, Polls, Gives, Stored, new_file, tag_of};
+ghost use Rattle.kf_pages.specs.Binary.{ReadAt, ReadsAt, WrittenAt};
 ghost use Rattle.kf_files.specs.Opened.{hold_after, paged_after, paged_refusal, refusal_of};
 
-use crate::binary_ops::BinaryOps;
-use crate::contents::Want;
-use crate::held_file::HeldFile;
-use crate::ops::{FileError, Ops, Page};
-use crate::page_holder::PageHolder;
+use crate::own_post::OwnPost;
 use kf_core::{Guard, Node, Refusal};
 use kf_notify::Post;
+use kf_pages::{BinaryOps, FileError, HeldFile, Ops, Page, PageHolder, Want};
 use std::marker::Model;
 use std::sync::Wait;
 use std::time::Duration;
@@ -23,7 +20,7 @@ use std::time::Duration;
 #[derive(Drop)]
 pub struct OpenFile<G: Guard, P: PageHolder = Page> {
     file: HeldFile<G, P>,
-    post: Post,
+    post: OwnPost,
 }
 
 impl<G: Guard, P: PageHolder> Model for OpenFile<G, P> {
@@ -102,7 +99,10 @@ impl<G: Guard, P: PageHolder> OpenFile<G, P> {
         ensures may_enter { G.may_enter guard.new (paged_after result) }
     {
         match HeldFile::open(guard, hold, node, want, page) {
-            Ok(file) => Ok(OpenFile { file, post }),
+            Ok(file) => Ok(OpenFile {
+                file,
+                post: OwnPost::new(post),
+            }),
             Err((hold, page, why)) => Err((hold, post, page, why)),
         }
     }
@@ -245,14 +245,14 @@ impl<G: Guard, P: PageHolder> OpenFile<G, P> {
     ///
     /// Context: sleeps; takes no lock.
     pub fn rest<R: Wait>(&self, rt: &R) {
-        self.post.rest(rt, self.file.number());
+        self.post.as_post().rest(rt, self.file.number());
     }
 
     /// As [`OpenFile::rest`], for this long at most.
     ///
     /// Context: sleeps; takes no lock.
     pub fn rest_for<R: Wait>(&self, rt: &R, limit: Duration) {
-        self.post.rest_for(rt, self.file.number(), limit);
+        self.post.as_post().rest_for(rt, self.file.number(), limit);
     }
 
     /// Gives the hold, the post and the page back (`kernfs_fop_release`).
@@ -262,6 +262,6 @@ impl<G: Guard, P: PageHolder> OpenFile<G, P> {
     {
         let OpenFile { file, post } = self;
         let (hold, page) = file.close();
-        (hold, post, page)
+        (hold, post.into_post(), page)
     }
 }

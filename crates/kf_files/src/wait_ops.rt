@@ -4,10 +4,10 @@ ghost use Rattle.std.specs.Prelude.{◌≡◌, ◌<◌, ◌≤◌, ℕ, List, []
 ghost use Rattle.kf_core.specs.Phases.{has_reference};
 ghost use Rattle.kf_core.specs.declared.caller.Phase.TheVariants.{Running};
 ghost use Rattle.kf_words.specs.Callers.{IsSameSeat};
-ghost use Rattle.kf_files.specs.declared.ops.Fault.{Fault};
-ghost use Rattle.kf_files.specs.Files.{filled_by};
+ghost use Rattle.kf_pages.specs.declared.ops.Fault.{Fault};
+ghost use Rattle.kf_pages.specs.Files.{filled_by};
 
-use crate::ops::{Fault, Page};
+use kf_pages::{Fault, Page};
 use kf_shared::{Naming, SharedTree};
 use kf_words::Call;
 use std::sync::Wait;

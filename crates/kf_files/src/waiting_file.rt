@@ -3,20 +3,18 @@
 ghost use Rattle.std.specs.Prelude.{◌≡◌, ◌≤◌, length, IfOk, IfErr, IsTrue, IsFalse, MatchResult};
 ghost use Rattle.kf_notify.specs.PostStates.{Took, IsSamePost};
 ghost use Rattle.kf_words.specs.Callers.{IsSameSeat};
-ghost use Rattle.kf_files.specs.Files.{Opens, Reads, Writes, Polls, Gives, new_file, tag_of};
-ghost use Rattle.kf_files.specs.Binary.{ReadsAt};
+ghost use Rattle.kf_pages.specs.Files.{Opens, Reads, Writes, Polls, Gives, new_file, tag_of};
+ghost use Rattle.kf_pages.specs.Binary.{ReadsAt};
 ghost use Rattle.kf_files.specs.Opened.{hold_after, paged_after, paged_refusal, refusal_of};
 ghost use Rattle.kf_files.specs.Waiting.{WaitVisits, MayStore, MayReadAt, MayWriteAt, HasChanged};
 
-use crate::binary_ops::{BinaryOps, WaitBinaryOps};
-use crate::contents::Want;
 use crate::open_file::OpenFile;
-use crate::ops::{Fault, FileError, Ops, Page};
-use crate::page_holder::{PageApart, PageHolder};
 use crate::tree_seats::{TreeCall, TreeHold, TreeSeats};
+use crate::wait_binary_ops::WaitBinaryOps;
 use crate::wait_ops::WaitOps;
 use kf_core::{Node, Refusal};
 use kf_notify::{Deadline, Post};
+use kf_pages::{BinaryOps, Fault, FileError, Ops, Page, PageApart, PageHolder, Want};
 use kf_shared::{Naming, SharedTree};
 use kf_words::Hold;
 use std::marker::Model;

@@ -18,24 +18,25 @@ use Rattle.kf_shared.specs.Locked.{Locked, UnlinkDone}
 use Rattle.kf_table.proofs.ChildTests.{both}
 use Rattle.kf_tree.specs.TreeLogs.{TreeLog, IsAccepted}
 use Rattle.kf_words.specs.Callers.{Handle}
-use Rattle.kf_groups.specs.Keeps.{Keeps, node_count}
+use Rattle.kf_groups.specs.Keeps.{Keeps}
+use Rattle.kf_tree.specs.Subtrees.{linked_count}
 use Rattle.kf_groups.specs.TakenBack.{GaveUp, LacksRoom, RoomRefused}
 
 pub created_more : (t : Tree) (key parent : Key) (name : List ℕ) (node : Node) (live : Bool) → slice_get t key.slot ≡ Some None
-    → node_count (after t (Create key parent name node live)) ≡ node_count t + 1
+    → linked_count (after t (Create key parent name node live)) ≡ linked_count t + 1
 created_more t key parent name node live vacant = count_filled t key.slot (new_record key parent name node live) vacant
 
-pub activated_same : (t : Tree) (key : Key) → node_count (after t (Activate key)) ≡ node_count t
+pub activated_same : (t : Tree) (key : Key) → linked_count (after t (Activate key)) ≡ linked_count t
 activated_same t key = count_mapped _ t
 
-pub doomed_count : (old new : TreeLog) (cause : Option Refusal) (key : Key) → IsAccepted old new cause (Doom key) → node_count new.tree ≡ node_count old.tree
-doomed_count old new cause key accepted = ap (λ (t : Tree). node_count t) accepted.changed ∙ count_mapped _ old.tree
+pub doomed_count : (old new : TreeLog) (cause : Option Refusal) (key : Key) → IsAccepted old new cause (Doom key) → linked_count new.tree ≡ linked_count old.tree
+doomed_count old new cause key accepted = ap (λ (t : Tree). linked_count t) accepted.changed ∙ count_mapped _ old.tree
 
-pub unlinked_fewer : (t : Tree) (key : Key) → is_linked t key ≡ true → node_count (after t (Unlink key)) + 1 ≡ node_count t
+pub unlinked_fewer : (t : Tree) (key : Key) → is_linked t key ≡ true → linked_count (after t (Unlink key)) + 1 ≡ linked_count t
 unlinked_fewer t key linked =
     let r = linked_here t key linked in
     let at : slice_get t key.slot ≡ Some (Some r.0) = ap (λ (k : Key). slice_get t k.slot) (sym r.2) ∙ r.1 in
-    subst (λ b. node_count (cond b (slice_set t key.slot None) t) + 1 ≡ node_count t) (sym linked) (count_cleared t key.slot r.0 at)
+    subst (λ b. linked_count (cond b (slice_set t key.slot None) t) + 1 ≡ linked_count t) (sym linked) (count_cleared t key.slot r.0 at)
 
 module _ (x y : Option Record) (xs ys : Tree) (keeps : Keeps (x ∷ xs) (y ∷ ys)) where
   behind : Keeps xs ys
@@ -48,7 +49,7 @@ module _ (x y : Option Record) (xs ys : Tree) (keeps : Keeps (x ∷ xs) (y ∷ y
         let one : tally (is_some y) ≡ 1 = ap (λ o. tally (is_some o)) same in omega arith)
   ] refl
 
-kept_most : (old new : Tree) → length new ≡ length old → Keeps old new → node_count old ≤ node_count new
+kept_most : (old new : Tree) → length new ≡ length old → Keeps old new → linked_count old ≤ linked_count new
 kept_most [] new l keeps = omega arith
 kept_most (x ∷ xs) [] l keeps = absurd (omega (arith, l))
 kept_most (x ∷ xs) (y ∷ ys) l keeps =
@@ -64,7 +65,7 @@ same_first None (Some s) keeps few = absurd (omega (arith, few))
 same_first (Some r) y keeps few = keeps r refl
 
 -- a tree of as many slots and at most as many nodes, which keeps the records of another, is that
-pub kept_all : (old new : Tree) → length new ≡ length old → Keeps old new → node_count new ≤ node_count old → new ≡ old
+pub kept_all : (old new : Tree) → length new ≡ length old → Keeps old new → linked_count new ≤ linked_count old → new ≡ old
 kept_all [] [] l keeps few = refl
 kept_all [] (y ∷ ys) l keeps few = absurd (omega (arith, l))
 kept_all (x ∷ xs) [] l keeps few = absurd (omega (arith, l))
@@ -81,11 +82,11 @@ kept_all (x ∷ xs) (y ∷ ys) l keeps few =
 -- a node was unlinked
 pub unlinked_one : (old new : Locked) (key drained : Key) (r : Result Bool Refusal) → r ≡ Ok true
     → IfOk r (λ linked. is_linked old.state.tree drained ≡ linked) → IfOk r (λ linked. UnlinkDone old new drained linked)
-    → node_count new.state.tree + 1 ≡ node_count old.state.tree
+    → linked_count new.state.tree + 1 ≡ linked_count old.state.tree
 unlinked_one old new key drained r did linked done =
     let there : is_linked old.state.tree drained ≡ true = subst (λ x. IfOk x (λ linked. is_linked old.state.tree drained ≡ linked)) did linked in
     let accepted : UnlinkDone old new drained true = subst (λ x. IfOk x (λ linked. UnlinkDone old new drained linked)) did done in
-    ap (λ (t : Tree). node_count t + 1) accepted.changed ∙ unlinked_fewer old.state.tree drained there
+    ap (λ (t : Tree). linked_count t + 1) accepted.changed ∙ unlinked_fewer old.state.tree drained there
 
 -- one more of these was unlinked, if each was so far
 pub unlinked_more : (n0 n1 n2 held : ℕ) (all one : Bool) (xs ys : List Handle) (h : Handle) → xs ≡ h ∷ ys
@@ -129,7 +130,7 @@ room_refused old new why refusal same keeps (inl slots) =
 room_refused old new why refusal same keeps (inr memory) = inr memory
 
 -- what was made since is taken back, or there was no memory for that
-pub gave_up : (t0 t1 t2 t3 : Tree) (why refusal result : Refusal) (nodes : ℕ) → node_count t1 ≡ node_count t0 + nodes
+pub gave_up : (t0 t1 t2 t3 : Tree) (why refusal result : Refusal) (nodes : ℕ) → linked_count t1 ≡ linked_count t0 + nodes
     → LacksRoom t1 t2 why refusal → GaveUp nodes t2 t3 refusal result → LacksRoom t0 t3 why result
 gave_up t0 t1 t2 t3 why refusal result nodes more lacks (inr memory) = inr memory
 gave_up t0 t1 t2 t3 why refusal result nodes more (inl slots) (inl gave) =

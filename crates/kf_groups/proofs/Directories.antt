@@ -16,7 +16,8 @@ use Rattle.kf_words.specs.Callers.{TableId}
 use Rattle.kf_words.specs.Nodes.{IsVacant}
 use Rattle.kf_groups.specs.declared.attribute.Group.{Group}
 use Rattle.kf_groups.specs.Groups.{GroupsRefused}
-use Rattle.kf_groups.specs.Keeps.{Keeps, node_count}
+use Rattle.kf_groups.specs.Keeps.{Keeps}
+use Rattle.kf_tree.specs.Subtrees.{linked_count}
 use Rattle.kf_groups.specs.TakenBack.{GaveUp, TookBack}
 use Rattle.kf_groups.proofs.Counts.{kept_all}
 use Rattle.kf_groups.proofs.Lengths.{created, took}
@@ -40,10 +41,10 @@ module _ (table : TableId) (old empty : Locked) (dir key : Key) (name : List ℕ
 
   -- one node fewer than with the empty directory, and no other is another: the tree is as it was
   same_again : (stopped new : Locked) → stopped.state.tree ≡ empty.state.tree → TookBack stopped new key → Keeps old.state.tree new.state.tree
-      → node_count new.state.tree + 1 ≡ node_count stopped.state.tree → new.state.tree ≡ old.state.tree
+      → linked_count new.state.tree + 1 ≡ linked_count stopped.state.tree → new.state.tree ≡ old.state.tree
   same_again stopped new same back keeps one =
       let more = made_more table old empty dir key name Dir whole vacant made in
-      let count : node_count stopped.state.tree ≡ node_count empty.state.tree = ap (λ (t : Tree). node_count t) same in
+      let count : linked_count stopped.state.tree ≡ linked_count empty.state.tree = ap (λ (t : Tree). linked_count t) same in
       kept_all old.state.tree new.state.tree
       (took stopped new key back ∙ ap length same ∙ created old empty dir key name Dir made)
       keeps (omega (arith, one, more, count))

@@ -11,7 +11,7 @@ use Rattle.kf_core.specs.Tree.{is_linked}
 use Rattle.kf_shared.specs.Locked.{Locked, CreateRefused, Unchanged, creation_fault}
 use Rattle.kf_tree.specs.Causes.{linked_cause}
 use Rattle.kf_tree.specs.TreeLogs.{TreeLog, IsRefused}
-use Rattle.kf_groups.specs.Keeps.{node_count}
+use Rattle.kf_tree.specs.Subtrees.{linked_count}
 use Rattle.kf_groups.specs.TakenBack.{LacksRoom}
 
 pub activate_lacks : (old new : TreeLog) (key : Key) (refusal : Refusal) → is_linked old.tree key ≡ true
@@ -34,7 +34,7 @@ create_lacks old new parent name node refusal free refused same = elim refused [
     | inl c ↦ (let next : Option Key = r.1.0 in
         let e : refusal ≡ NoSpace = lacks_key next refusal
         (subst (λ f. first_cause (f ∷ unless (is_some next) NoSpace ∷ []) ≡ Some refusal) free c) in
-        inl (e, e, ap (λ t. node_count t) same.tree))
+        inl (e, e, ap (λ t. linked_count t) same.tree))
     | inr m ↦ inr m.1
   ]
 ]

@@ -16,7 +16,7 @@ use Rattle.kf_shared.specs.Locked.{Locked, Created, CreateRefused}
 use Rattle.kf_groups.specs.declared.attribute.Attribute.{Attribute}
 use Rattle.kf_groups.specs.Attributes.{file_of, is_shown, shown}
 use Rattle.kf_groups.specs.Making.{creation, creations, live_creations, named_creations}
-use Rattle.kf_groups.specs.Keeps.{node_count}
+use Rattle.kf_tree.specs.Subtrees.{linked_count}
 use Rattle.kf_groups.specs.TakenBack.{EachTookBack, FileMade, FilesTakenBack, LiveTakenBack, NameTookBack, NotActivated, TookBack}
 use Rattle.kf_groups.proofs.Names.{rest_of}
 
@@ -65,8 +65,8 @@ filled s0 s1 s2 dir key attributes d some there created rest =
 -- as many files were made as there are
 pub one_more : (t0 t1 t2 : Tree) (attributes : List Attribute) (d : Attribute)
     → 1 ≤ length attributes → (get_or attributes 0 d).mode ≢ 0
-    → node_count t1 ≡ node_count t0 + 1 → node_count t2 ≡ node_count t1 + length (shown (later attributes))
-    → node_count t2 ≡ node_count t0 + length (shown attributes)
+    → linked_count t1 ≡ linked_count t0 + 1 → linked_count t2 ≡ linked_count t1 + length (shown (later attributes))
+    → linked_count t2 ≡ linked_count t0 + length (shown attributes)
 one_more t0 t1 t2 attributes d some there first rest =
     let all : length (shown attributes) ≡ suc (length (shown (later attributes))) = ap length (first_shown attributes d some there) in
     omega (arith, first, rest, all)
@@ -74,9 +74,9 @@ one_more t0 t1 t2 attributes d some there first rest =
 -- as many were taken back
 pub one_fewer : (t0 t1 t2 : Tree) (attributes : List Attribute) (d : Attribute) (later_gone gone : Bool)
     → 1 ≤ length attributes → (get_or attributes 0 d).mode ≢ 0
-    → (later_gone ≡ true → node_count t1 + length (shown (later attributes)) ≡ node_count t0)
-    → (gone ≡ true → node_count t2 + 1 ≡ node_count t1)
-    → (later_gone && gone) ≡ true → node_count t2 + length (shown attributes) ≡ node_count t0
+    → (later_gone ≡ true → linked_count t1 + length (shown (later attributes)) ≡ linked_count t0)
+    → (gone ≡ true → linked_count t2 + 1 ≡ linked_count t1)
+    → (later_gone && gone) ≡ true → linked_count t2 + length (shown attributes) ≡ linked_count t0
 one_fewer t0 t1 t2 attributes d later_gone gone some there rest first h =
     let all : length (shown attributes) ≡ suc (length (shown (later attributes))) = ap length (first_shown attributes d some there) in
     let b = both later_gone gone h in

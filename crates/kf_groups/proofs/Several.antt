@@ -27,7 +27,8 @@ use Rattle.kf_groups.specs.declared.attribute.Group.{Group}
 use Rattle.kf_groups.specs.Attributes.{HasNone, cause_by_name, file_fault, file_of, files_cause, group_cause, group_size, has_name, own_name, shown}
 use Rattle.kf_groups.specs.Groups.{GroupTakenBack, GroupsMade, GroupsRefused, GroupsTakenBack, IsWithout, clashes, groups_cause, groups_size, makes, shares, shares_by_name}
 use Rattle.kf_groups.specs.Making.{GroupMade, MadeByName}
-use Rattle.kf_groups.specs.Keeps.{Keeps, node_count}
+use Rattle.kf_groups.specs.Keeps.{Keeps}
+use Rattle.kf_tree.specs.Subtrees.{linked_count}
 use Rattle.kf_groups.specs.TakenBack.{GroupRefused, LacksRoom, RoomRefused}
 use Rattle.kf_groups.proofs.Counts.{room_refused}
 use Rattle.kf_groups.proofs.Free.{joined, neither, parted}
@@ -217,8 +218,8 @@ module _ (groups : List Group) (d : Group) (some : 1 ≤ length groups) where
   pub all_made : (old between new : TreeLog) (dir key : Key) → GroupMade old between dir first key → GroupsMade between new dir rest → GroupsMade old new dir groups
   all_made old between new dir key made others = subst (GroupsMade old new dir) (sym parts) (between, key, made, others)
 
-  pub counted : (t0 t1 t2 : Tree) → node_count t1 ≡ node_count t0 + group_size first → node_count t2 ≡ node_count t1 + groups_size rest
-      → node_count t2 ≡ node_count t0 + groups_size groups
+  pub counted : (t0 t1 t2 : Tree) → linked_count t1 ≡ linked_count t0 + group_size first → linked_count t2 ≡ linked_count t1 + groups_size rest
+      → linked_count t2 ≡ linked_count t0 + groups_size groups
   counted t0 t1 t2 one others =
       let all : groups_size groups ≡ group_size first + groups_size rest = ap groups_size parts in omega (arith, one, others, all)
 
@@ -233,7 +234,7 @@ module _ (groups : List Group) (d : Group) (some : 1 ≤ length groups) where
   )
     where
       lacking : (old new : Tree) (why refusal : Refusal) → RoomRefused old new why refusal → LacksRoom old new why refusal
-      lacking old new why refusal (inl slots) = inl (slots.0, slots.1, ap (λ t. node_count t) slots.2)
+      lacking old new why refusal (inl slots) = inl (slots.0, slots.1, ap (λ t. linked_count t) slots.2)
       lacking old new why refusal (inr memory) = inr memory
 
   pub later_refused : (old made stopped new : Locked) (dir key : Key) (why : Refusal) → GroupMade old.state made.state dir first key → GroupsTakenBack made stopped dir rest why

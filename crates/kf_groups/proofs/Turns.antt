@@ -21,7 +21,8 @@ use Rattle.kf_tree.specs.TreeLogs.{TreeLog, IsAccepted}
 use Rattle.kf_tree.proofs.Allowed.{not_passed, passed}
 use Rattle.kf_groups.specs.declared.attribute.Attribute.{Attribute}
 use Rattle.kf_groups.specs.Attributes.{HasNone, file_of, file_fault, files_cause, has_name, shown}
-use Rattle.kf_groups.specs.Keeps.{Keeps, KeepsOlder, node_count}
+use Rattle.kf_groups.specs.Keeps.{Keeps, KeepsOlder}
+use Rattle.kf_tree.specs.Subtrees.{linked_count}
 use Rattle.kf_groups.proofs.Free.{all_still_free, first_of_six, of_six, parted}
 use Rattle.kf_groups.proofs.Counts.{activated_same, created_more}
 use Rattle.kf_groups.proofs.Linked.{itself_at, not_linked, vacant_slot}
@@ -76,8 +77,8 @@ module _ (table : TableId) (s0 s1 : Locked) (dir key : Key) (name : List ℕ) (n
   pub made_keeps : Keeps s0.state.tree s1.state.tree
   made_keeps = subst (Keeps s0.state.tree) (sym made.changed) (keeps_created s0.state.tree key dir name node false slot)
 
-  pub made_more : node_count s1.state.tree ≡ node_count s0.state.tree + 1
-  made_more = ap (λ (t : Tree). node_count t) made.changed ∙ created_more s0.state.tree key dir name node false slot
+  pub made_more : linked_count s1.state.tree ≡ linked_count s0.state.tree + 1
+  made_more = ap (λ (t : Tree). linked_count t) made.changed ∙ created_more s0.state.tree key dir name node false slot
 
   pub fresh : is_linked s0.state.tree key ≡ false
   fresh = not_linked s0.state.tree key dir name node false slot
@@ -94,8 +95,8 @@ module _ (table : TableId) (s0 s1 : Locked) (dir key : Key) (name : List ℕ) (n
       (activated s0.state.tree s0.state.root key whole.kept.lawful fresh s2.tree
       (keeps_on s0.state.tree s1.state.tree s2.tree made_keeps since))
 
-pub activated_count : (s2 s3 : TreeLog) (cause : Option Refusal) (key : Key) → IsAccepted s2 s3 cause (Activate key) → node_count s3.tree ≡ node_count s2.tree
-activated_count s2 s3 cause key accepted = ap (λ (t : Tree). node_count t) accepted.changed ∙ activated_same s2.tree key
+pub activated_count : (s2 s3 : TreeLog) (cause : Option Refusal) (key : Key) → IsAccepted s2 s3 cause (Activate key) → linked_count s3.tree ≡ linked_count s2.tree
+activated_count s2 s3 cause key accepted = ap (λ (t : Tree). linked_count t) accepted.changed ∙ activated_same s2.tree key
 
 -- no file of these names is there, where nothing is wrong with them
 pub none_yet : (s : TreeLog) (dir : Key) (attributes : List Attribute) → AreFree s dir attributes → HasNone s.tree dir attributes

@@ -1,13 +1,9 @@
 -- What several commands leave as it was.
-use Rattle.std.specs.Prelude.{◌≡◌, ℕ, false, slice_get, Some, is_some, count_by}
+use Rattle.std.specs.Prelude.{◌≡◌, ℕ, false, slice_get, Some}
 use Rattle.kf_core.specs.declared.key.Key.{Key}
 use Rattle.kf_core.specs.declared.records.Record.{Record}
 use Rattle.kf_core.specs.Lawful.{Lawful}
 use Rattle.kf_core.specs.Tree.{Tree, is_linked}
-
--- how many nodes are linked
-abbrev pub node_count : Tree → ℕ
-node_count t = count_by is_some t
 
 -- each record that was there is there, as it was
 abbrev pub Keeps : Tree → Tree → Type 0

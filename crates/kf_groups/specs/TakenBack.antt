@@ -17,12 +17,12 @@ use Rattle.kf_groups.specs.declared.attribute.Attribute.{Attribute}
 use Rattle.kf_groups.specs.declared.attribute.Group.{Group}
 use Rattle.kf_groups.specs.Attributes.{file_of, group_cause, own_name, shown}
 use Rattle.kf_groups.specs.Making.{creations, live_creations}
-use Rattle.kf_groups.specs.Keeps.{node_count}
+use Rattle.kf_tree.specs.Subtrees.{linked_count}
 
 -- there was no slot, for this reason, and as many nodes are linked as before; or there was no memory
 abbrev pub LacksRoom : Tree → Tree → Refusal → Refusal → Type 0
 LacksRoom old new why refusal =
-    ((refusal ≡ NoSpace) × (why ≡ NoSpace) × (node_count new ≡ node_count old)) ⊎ (refusal ≡ NoMemory)
+    ((refusal ≡ NoSpace) × (why ≡ NoSpace) × (linked_count new ≡ linked_count old)) ⊎ (refusal ≡ NoMemory)
 
 -- there was no slot, for this reason, and the tree is as it was; or there was no memory, be it to take back
 -- what was made
@@ -33,7 +33,7 @@ RoomRefused old new why refusal =
 -- this was the reason, and this many nodes fewer are linked; or there was no memory
 abbrev pub GaveUp : ℕ → Tree → Tree → Refusal → Refusal → Type 0
 GaveUp nodes old new refusal result =
-    ((result ≡ refusal) × (node_count new + nodes ≡ node_count old)) ⊎ (result ≡ NoMemory)
+    ((result ≡ refusal) × (linked_count new + nodes ≡ linked_count old)) ⊎ (result ≡ NoMemory)
 
 -- the removal of the node was refused, and nothing was stored: a hold of it was refused; or one was counted,
 -- and then the doom was refused

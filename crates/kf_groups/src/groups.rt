@@ -6,7 +6,8 @@ ghost use Rattle.kf_core.specs.Lawful.{Lawful};
 ghost use Rattle.kf_core.specs.Tree.{Tree};
 ghost use Rattle.kf_groups.specs.Attributes.{group_size, own_name, shown};
 ghost use Rattle.kf_groups.specs.Groups.{groups_cause, groups_size, GroupTakenBack, GroupsMade, GroupsRefused, GroupsTakenBack, IsWithout};
-ghost use Rattle.kf_groups.specs.Keeps.{Keeps, KeepsOlder, node_count};
+ghost use Rattle.kf_groups.specs.Keeps.{Keeps, KeepsOlder};
+ghost use Rattle.kf_tree.specs.Subtrees.{linked_count};
 ghost use Rattle.kf_groups.specs.TakenBack.{EachTookBack, GaveUp, LacksRoom, TookBack};
 ghost use Rattle.kf_shared.specs.Locked.{Locked};
 
@@ -26,8 +27,8 @@ fn take_back_directory<N: Naming>(
     ensures took { (between : Locked)
         × EachTookBack editor.old between key (shown attributes.now) × TookBack between editor.new key }
     ensures older { KeepsOlder key editor.old.state.tree editor.new.state.tree }
-    ensures counted { result ≡ true → node_count editor.new.state.tree + suc (length (shown attributes.now))
-        ≡ node_count editor.old.state.tree }
+    ensures counted { result ≡ true → linked_count editor.new.state.tree + suc (length (shown attributes.now))
+        ≡ linked_count editor.old.state.tree }
     ensures claims { editor.new.claims ≡ editor.old.claims }
 {
     let files = take_back_files(editor, key, attributes);
@@ -43,7 +44,7 @@ fn take_back_group<N: Naming>(editor: &mut Editor<'_, N>, dir: Key, group: &Grou
         → IsWithout base dir key (shown group.now.attributes.now) (own_name group.now)
         → Keeps base editor.old.state.tree → Keeps base editor.new.state.tree }
     ensures counted { result ≡ true →
-        node_count editor.new.state.tree + group_size group.now ≡ node_count editor.old.state.tree }
+        linked_count editor.new.state.tree + group_size group.now ≡ linked_count editor.old.state.tree }
     ensures claims { editor.new.claims ≡ editor.old.claims }
 {
     match own_name(group) {
@@ -88,8 +89,8 @@ fn make_groups<N: Naming>(
         × LacksRoom editor.old.state.tree editor.new.state.tree why refusal
         × GroupsTakenBack editor.old editor.new dir groups.now why) }
     ensures others { Keeps editor.old.state.tree editor.new.state.tree }
-    ensures counted { OnOk result (node_count editor.new.state.tree
-        ≡ node_count editor.old.state.tree + groups_size groups.now) }
+    ensures counted { OnOk result (linked_count editor.new.state.tree
+        ≡ linked_count editor.old.state.tree + groups_size groups.now) }
     ensures claims { editor.new.claims ≡ editor.old.claims }
 {
     let [first, rest @ ..] = groups else {
@@ -124,8 +125,8 @@ pub fn create_groups<N: Naming>(
     ensures refused { IfErr result
         (λ refusal. GroupsRefused editor.old editor.new dir groups.now refusal) }
     ensures others { Keeps editor.old.state.tree editor.new.state.tree }
-    ensures counted { OnOk result (node_count editor.new.state.tree
-        ≡ node_count editor.old.state.tree + groups_size groups.now) }
+    ensures counted { OnOk result (linked_count editor.new.state.tree
+        ≡ linked_count editor.old.state.tree + groups_size groups.now) }
     ensures claims { editor.new.claims ≡ editor.old.claims }
 {
     if let Some(refusal) = groups_cause(editor.state(), dir, groups) {

@@ -8,7 +8,8 @@ ghost use Rattle.kf_tree.specs.Causes.{create_fault};
 ghost use Rattle.kf_tree.specs.TreeLogs.{Stores};
 ghost use Rattle.kf_groups.specs.Attributes.{file_fault, files_cause, group_size, has_files, shown};
 ghost use Rattle.kf_groups.specs.Making.{creations, live_creations, named_creations, GroupMade};
-ghost use Rattle.kf_groups.specs.Keeps.{Keeps, node_count};
+ghost use Rattle.kf_groups.specs.Keeps.{Keeps};
+ghost use Rattle.kf_tree.specs.Subtrees.{linked_count};
 ghost use Rattle.kf_groups.specs.TakenBack.{DirectoryTakenBack, FilesTakenBack, GroupRefused, LacksRoom};
 
 use crate::attribute::{Attribute, Group};
@@ -31,8 +32,8 @@ fn fill<N: Naming>(
         × LacksRoom editor.old.state.tree editor.new.state.tree why refusal
         × FilesTakenBack editor.old editor.new dir (shown attributes.now) why) }
     ensures others { Keeps editor.old.state.tree editor.new.state.tree }
-    ensures counted { OnOk result (node_count editor.new.state.tree
-        ≡ node_count editor.old.state.tree + length (shown attributes.now)) }
+    ensures counted { OnOk result (linked_count editor.new.state.tree
+        ≡ linked_count editor.old.state.tree + length (shown attributes.now)) }
     ensures claims { editor.new.claims ≡ editor.old.claims }
 {
     let [first, rest @ ..] = attributes else {
@@ -64,8 +65,8 @@ fn make_files<N: Naming>(
         × LacksRoom editor.old.state.tree editor.new.state.tree why refusal
         × FilesTakenBack editor.old editor.new dir (shown attributes.now) why) }
     ensures others { Keeps editor.old.state.tree editor.new.state.tree }
-    ensures counted { OnOk result (node_count editor.new.state.tree
-        ≡ node_count editor.old.state.tree + length (shown attributes.now)) }
+    ensures counted { OnOk result (linked_count editor.new.state.tree
+        ≡ linked_count editor.old.state.tree + length (shown attributes.now)) }
     ensures claims { editor.new.claims ≡ editor.old.claims }
 {
     let [first, rest @ ..] = attributes else {
@@ -106,8 +107,8 @@ fn make_directory<N: Naming>(
         × DirectoryTakenBack editor.old editor.new dir name.now (shown attributes.now) why) }
     ensures fresh { IfOk result (λ key. is_linked editor.old.state.tree key ≡ false) }
     ensures others { Keeps editor.old.state.tree editor.new.state.tree }
-    ensures counted { OnOk result (node_count editor.new.state.tree
-        ≡ node_count editor.old.state.tree + suc (length (shown attributes.now))) }
+    ensures counted { OnOk result (linked_count editor.new.state.tree
+        ≡ linked_count editor.old.state.tree + suc (length (shown attributes.now))) }
     ensures claims { editor.new.claims ≡ editor.old.claims }
 {
     let _ = editor.state();
@@ -146,8 +147,8 @@ pub fn create_group<N: Naming>(
     ensures refused { IfErr result
         (λ refusal. GroupRefused editor.old editor.new dir group.now refusal) }
     ensures others { Keeps editor.old.state.tree editor.new.state.tree }
-    ensures counted { OnOk result (node_count editor.new.state.tree
-        ≡ node_count editor.old.state.tree + group_size group.now) }
+    ensures counted { OnOk result (linked_count editor.new.state.tree
+        ≡ linked_count editor.old.state.tree + group_size group.now) }
     ensures claims { editor.new.claims ≡ editor.old.claims }
 {
     if let Some(refusal) = group_cause(editor.state(), dir, group) {

@@ -10,7 +10,8 @@ ghost use Rattle.kf_tree.specs.TreeLogs.{IsAccepted, Stores};
 ghost use Rattle.kf_shared.specs.Receipts.{AreOf};
 ghost use Rattle.kf_shared.specs.Removal.{keys_of};
 ghost use Rattle.kf_groups.specs.Attributes.{HasNone, shown};
-ghost use Rattle.kf_groups.specs.Keeps.{Keeps, KeepsOlder, node_count};
+ghost use Rattle.kf_groups.specs.Keeps.{Keeps, KeepsOlder};
+ghost use Rattle.kf_tree.specs.Subtrees.{linked_count};
 ghost use Rattle.kf_groups.specs.TakenBack.{EachTookBack, GaveUp, NameTookBack, TakeBackRefused, TookBack};
 
 use crate::attribute::Attribute;
@@ -54,7 +55,7 @@ fn unlink<N: Naming>(editor: &mut Editor<'_, N>, hold: Hold) -> bool
     ensures unlinked { (keys : List Key) × All (λ key. key ≡ hold.key) keys
         × Stores editor.old.state editor.new.state (map Unlink keys) }
     ensures counted { result ≡ true →
-        node_count editor.new.state.tree + 1 ≡ node_count editor.old.state.tree }
+        linked_count editor.new.state.tree + 1 ≡ linked_count editor.old.state.tree }
     ensures claims { editor.new.claims ≡ editor.old.claims }
 {
     match hold.look() {
@@ -76,7 +77,7 @@ fn unlink_each<N: Naming>(editor: &mut Editor<'_, N>, holds: Vec<Hold>) -> bool
     ensures unlinked { (keys : List Key) × All (Contains (keys_of holds.items)) keys
         × Stores editor.old.state editor.new.state (map Unlink keys) }
     ensures counted { result ≡ true →
-        node_count editor.new.state.tree + length holds.items ≡ node_count editor.old.state.tree }
+        linked_count editor.new.state.tree + length holds.items ≡ linked_count editor.old.state.tree }
     ensures claims { editor.new.claims ≡ editor.old.claims }
 {
     let mut rest = holds.into_iter();
@@ -96,7 +97,7 @@ pub fn take_back<N: Naming>(editor: &mut Editor<'_, N>, key: Key) -> bool
     ensures took { TookBack editor.old editor.new key }
     ensures older { KeepsOlder key editor.old.state.tree editor.new.state.tree }
     ensures counted { result ≡ true →
-        node_count editor.new.state.tree + 1 ≡ node_count editor.old.state.tree }
+        linked_count editor.new.state.tree + 1 ≡ linked_count editor.old.state.tree }
     ensures claims { editor.new.claims ≡ editor.old.claims }
 {
     let Ok(holds) = doom(editor, key) else {
@@ -128,7 +129,7 @@ fn take_back_name<N: Naming>(editor: &mut Editor<'_, N>, dir: Key, name: &[u8]) 
     ensures older { (base : Tree) (root : Key) → Lawful base root → has_entry base dir name.now ≡ false
         → Keeps base editor.old.state.tree → Keeps base editor.new.state.tree }
     ensures counted { result ≡ true →
-        node_count editor.new.state.tree + 1 ≡ node_count editor.old.state.tree }
+        linked_count editor.new.state.tree + 1 ≡ linked_count editor.old.state.tree }
     ensures claims { editor.new.claims ≡ editor.old.claims }
 {
     match editor.state().find(dir, name) {
@@ -147,8 +148,8 @@ pub(crate) fn take_back_files<N: Naming>(
     ensures took { EachTookBack editor.old editor.new dir (shown attributes.now) }
     ensures older { (base : Tree) (root : Key) → Lawful base root → HasNone base dir (shown attributes.now)
         → Keeps base editor.old.state.tree → Keeps base editor.new.state.tree }
-    ensures counted { result ≡ true → node_count editor.new.state.tree + length (shown attributes.now)
-        ≡ node_count editor.old.state.tree }
+    ensures counted { result ≡ true → linked_count editor.new.state.tree + length (shown attributes.now)
+        ≡ linked_count editor.old.state.tree }
     ensures claims { editor.new.claims ≡ editor.old.claims }
 {
     let [first, rest @ ..] = attributes else {

@@ -9,6 +9,7 @@ use Rattle.kf_tree.specs.declared.stat.Stat.{Stat}
 use Rattle.kf_tree.specs.Causes.{linked_cause, target_of}
 use Rattle.kf_tree.specs.TreeLogs.{IsNew, IsAccepted, IsCompacted}
 use Rattle.kf_words.specs.Steps.{opened}
+use Rattle.kf_pages.specs.Files.{tag_of}
 use Rattle.kf_shared.specs.Locked.{Created, IsHoldOfNode, is_claimed}
 use Rattle.kf_handles.specs.declared.object.Object.{Object}
 use Rattle.kf_handles.specs.declared.object.Place.{Place}
@@ -39,12 +40,6 @@ abbrev pub kind_in_c : Node → ℕ
 kind_in_c Dir = 0
 kind_in_c (File mode tag) = 1
 kind_in_c (Link target) = 2
-
--- the tag of a file
-abbrev pub tag_of : Node → ℕ
-tag_of Dir = 0
-tag_of (File mode tag) = tag
-tag_of (Link target) = 0
 
 -- the permission bits of a file
 abbrev pub mode_of : Node → ℕ

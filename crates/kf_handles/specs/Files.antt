@@ -11,8 +11,8 @@ use Rattle.kf_core.specs.Tree.{record_at}
 use Rattle.kf_tree.specs.declared.stat.Stat.{Stat}
 use Rattle.kf_tree.specs.Stat.{stat_of}
 use Rattle.kf_notify.specs.PostStates.{IsNewPost}
-use Rattle.kf_files.specs.declared.contents.Want.{Want}
-use Rattle.kf_files.specs.Files.{open_cause, new_file, text_of, text_in_file, slice, is_changed}
+use Rattle.kf_pages.specs.declared.contents.Want.{Want}
+use Rattle.kf_pages.specs.Files.{open_cause, new_file, text_of, text_in_file, slice, is_changed}
 use Rattle.kf_handles.specs.declared.object.Object.{Object}
 use Rattle.kf_handles.specs.declared.object.Object.TheVariants as behind
 use Rattle.kf_handles.specs.declared.object.Place.{Place}

@@ -1,7 +1,7 @@
 -- What contracts see of a tree and of an open file.
 use Rattle.std.specs.Prelude.{◌≡◌, List, Option, All, IfSome}
 use Rattle.kf_notify.specs.PostStates.{Numbers, PostState}
-use Rattle.kf_files.specs.Files.{FileState}
+use Rattle.kf_pages.specs.Files.{FileState}
 use Rattle.kf_words.specs.Callers.{TableId, Handle}
 use Rattle.kf_shared.specs.Locked.{Locked}
 

@@ -1,4 +1,5 @@
 pub mod Ownership
+pub mod Lending
 pub mod Kept
 pub mod Stages
 pub mod Hiding

@@ -10,9 +10,8 @@ use crate::errors::{INVALID, error_of};
 use crate::handle::KtHandle;
 use crate::holds::Held;
 use crate::object::{Object, Place, Seat};
-use crate::replies::put_handle;
+use crate::replies::put;
 use crate::telling::is_nothing;
-use core::mem::replace_with;
 use kf_core::Refusal;
 
 /// Another hold of a hold's node, if there is a hold.
@@ -28,19 +27,6 @@ fn another_of(seat: &mut Seat) -> Result<Held, Refusal>
         },
         _ => Err(Refusal::Invalid),
     }
-}
-
-fn another_behind(handle: KtHandle, _nothing: ()) -> (KtHandle, Result<Held, Refusal>)
-    ensures made { IfOk result.1 (λ other.
-        GaveAnother handle.place.seat result.0.place.seat (seat_of.Hold other)) }
-    ensures none { OnErr result.1 (GaveNoOther handle.place.seat result.0.place.seat) }
-    ensures why { IfErr result.1 (λ why.
-        WhyNoOther handle.place.seat result.0.place.seat (error_in_c why)) }
-    ensures beside { result.0.place.object ≡ handle.place.object }
-{
-    let mut boxed = handle.into_box();
-    let made = another_of(&mut boxed.as_mut().seat);
-    (KtHandle::of(boxed), made)
 }
 
 /// Another hold of a hold's node, behind a handle with nothing behind it. It needs no tree and no lock.
@@ -60,10 +46,10 @@ pub fn dup(hold: &mut KtHandle, out: &mut KtHandle) -> i32
     if !is_nothing(out) {
         return INVALID;
     }
-    match replace_with(hold, (), another_behind) {
+    match another_of(&mut hold.place_mut().seat) {
         Ok(held) => {
             let place = Place::of(Seat::Hold(held), Object::Empty);
-            replace_with(out, place, put_handle)
+            put(out.place_mut(), place)
         }
         Err(refusal) => error_of(refusal),
     }

@@ -43,15 +43,12 @@ pub fn answer<N: Naming>(locked: &mut Locked<N>, question: Question<'_>) -> Tree
     }
 }
 
-/// What lies there after it was asked, and what it returns.
-pub fn ask_object(object: Object, question: Question<'_>) -> (Object, TreeReply)
-    ensures { AnsweredBehind question.entry object result.0 result.1 }
+/// Asks what lies there.
+pub fn ask_object(object: &mut Object, question: Question<'_>) -> TreeReply
+    ensures { AnsweredBehind question.entry object.old object.new result }
 {
     match object {
-        Object::Tree(mut tree) => {
-            let reply = replace_with(tree.as_mut(), question, ask);
-            (Object::Tree(tree), reply)
-        }
-        other => (other, TreeReply::Wrong),
+        Object::Tree(tree) => replace_with(tree.as_mut(), question, ask),
+        _ => TreeReply::Wrong,
     }
 }

@@ -1,6 +1,6 @@
 //! An open file behind a handle: a post of its node's slot, and what the file keeps.
 ghost use Rattle.std.specs.Prelude.{◌≡◌, None, Some};
-ghost use Rattle.kf_files.specs.Files.{new_file, is_changed};
+ghost use Rattle.kf_pages.specs.Files.{new_file, is_changed};
 ghost use Rattle.kf_handles.specs.Taken.{NumberTaken};
 
 use kf_files::{Contents, Page, Want};

@@ -5,19 +5,19 @@ ghost use Rattle.kf_handles.specs.Calls.{IsNothing, is_nothing, key_in};
 ghost use Rattle.kf_handles.specs.Files.{OpenedIn, OpenRefused, Serves, BeganRead, HasShown, TextFrom, MayWrite, WasPolled, ReadRefused, WriteRefused, IsSamePlace, IsNotAsked, IsNotShowing, HasNoText, open_fault, read_error, write_error};
 ghost use Rattle.kf_handles.specs.LookUps.{IsRefusal, TellsText};
 ghost use Rattle.kf_handles.specs.Steps.{WasEntered};
-ghost use Rattle.kf_files.specs.Files.{allows};
+ghost use Rattle.kf_pages.specs.Files.{allows};
 
 use crate::errors::{ACCESS, INVALID, NO_MEMORY, error_of};
 use crate::file::File;
 use crate::handle::KtHandle;
-use crate::numbers::post_of_handle;
+use crate::numbers::post_of;
 use crate::object::{Object, Place, Seat};
 use crate::questions::{Question, TreeReply};
-use crate::replies::{KtKey, ask_handle, key_of, put_handle};
+use crate::replies::{KtKey, ask_handle, key_of, put};
 use crate::steps;
-use crate::telling::{is_nothing, stat_of};
+use crate::telling::{is_nothing, stat_in};
 use crate::texts::copied;
-use core::mem::{replace, replace_with};
+use core::mem::replace_with;
 use kf_core::{Node, Refusal};
 use kf_files::Want;
 use kf_tree::Stat;
@@ -64,26 +64,26 @@ pub fn open(alloc: Global, handle: &mut KtHandle, key: KtKey, want: Want, out: &
         return INVALID;
     }
     let key = key_of(key);
-    let stat = match replace_with(handle, key, stat_of) {
+    let stat = match stat_in(&handle.place_mut().object, key) {
         Ok(stat) => stat,
         Err(refusal) => return error_of(refusal),
     };
     if let Some(refusal) = open_fault(stat, want) {
         return error_of(refusal);
     }
-    let held = match replace_with(handle, Question::Hold(key), ask_handle) {
+    let held = match ask_handle(handle, Question::Hold(key)) {
         TreeReply::Held(held) => held,
         TreeReply::Refused(refusal) => return error_of(refusal),
         _ => return INVALID,
     };
-    let post = match replace_with(handle, key, post_of_handle) {
+    let post = match post_of(&mut handle.place_mut().object, key) {
         Ok(post) => post,
         Err(refusal) => return error_of(refusal),
     };
     match Box::new(alloc, File::new(want, post)) {
         Ok(file) => {
             let place = Place::of(Seat::Hold(held), Object::File(file));
-            replace_with(out, place, put_handle)
+            put(out.place_mut(), place)
         }
         Err(_) => NO_MEMORY,
     }
@@ -115,20 +115,6 @@ fn begin_read_at(place: &mut Place, offset: u64) -> i32
     }
 }
 
-fn begin_read_handle(handle: KtHandle, offset: u64) -> (KtHandle, i32)
-    ensures served { result.1 ≡ pos 0 →
-        Serves offset handle.place.object × IsSamePlace handle.place result.0.place }
-    ensures begun { result.1 ≡ pos 1 → BeganRead offset handle.place result.0.place }
-    ensures refused { result.1 ≢ pos 0 → result.1 ≢ pos 1 →
-        ReadRefused offset handle.place result.0.place }
-    ensures why { result.1 ≢ pos 0 → result.1 ≢ pos 1 →
-        result.1 ≡ read_error handle.place.object handle.place.seat }
-{
-    let mut boxed = handle.into_box();
-    let answer = begin_read_at(boxed.as_mut(), offset);
-    (KtHandle::of(boxed), answer)
-}
-
 /// Begins a read.
 pub fn begin_read(file: &mut KtHandle, offset: u64) -> i32
     ensures served { result ≡ pos 0 →
@@ -138,7 +124,7 @@ pub fn begin_read(file: &mut KtHandle, offset: u64) -> i32
     ensures why { result ≢ pos 0 → result ≢ pos 1 →
         result ≡ read_error file.old.place.object file.old.place.seat }
 {
-    replace_with(file, offset, begin_read_handle)
+    begin_read_at(file.place_mut(), offset)
 }
 
 /// Keeps the text that a show made, in the call that began it.
@@ -159,17 +145,6 @@ fn shown_at(place: &mut Place, shown: &[u8]) -> i32
     }
 }
 
-fn shown_handle(handle: KtHandle, shown: &[u8]) -> (KtHandle, i32)
-    ensures kept { result.1 ≡ pos 0 → HasShown shown.now handle.place result.0.place }
-    ensures same { result.1 ≢ pos 0 → IsSamePlace handle.place result.0.place }
-    ensures why { result.1 ≢ pos 0 →
-        (result.1 ≡ negsuc 21) × IsNotShowing handle.place.seat handle.place.object }
-{
-    let mut boxed = handle.into_box();
-    let answer = shown_at(boxed.as_mut(), shown);
-    (KtHandle::of(boxed), answer)
-}
-
 /// Keeps the text that a show made.
 pub fn shown(file: &mut KtHandle, shown: &[u8]) -> i32
     ensures kept { result ≡ pos 0 → HasShown shown.now file.old.place file.new.place }
@@ -177,7 +152,7 @@ pub fn shown(file: &mut KtHandle, shown: &[u8]) -> i32
     ensures why { result ≢ pos 0 →
         (result ≡ negsuc 21) × IsNotShowing file.old.place.seat file.old.place.object }
 {
-    replace_with(file, shown, shown_handle)
+    shown_at(file.place_mut(), shown)
 }
 
 /// The text from the offset on, at most this many bytes, of what is a file that has one.
@@ -209,36 +184,13 @@ fn copy_text(object: &Object, offset: u64, out: &mut [u8]) -> i64
     }
 }
 
-/// Takes what is beside a seat.
-fn take(handle: KtHandle, _nothing: ()) -> (KtHandle, Object)
-    ensures seat { result.0.place.seat ≡ handle.place.seat }
-    ensures object { result.1 ≡ handle.place.object }
-{
-    let mut boxed = handle.into_box();
-    let object = replace(&mut boxed.as_mut().object, Object::Empty);
-    (KtHandle::of(boxed), object)
-}
-
-/// Puts it back.
-fn give(handle: KtHandle, object: Object) -> (KtHandle, ())
-    ensures seat { result.0.place.seat ≡ handle.place.seat }
-    ensures object { result.0.place.object ≡ object }
-{
-    let mut boxed = handle.into_box();
-    drop(replace(&mut boxed.as_mut().object, object));
-    (KtHandle::of(boxed), ())
-}
-
 /// Copies the text of a file from the offset on, as much as there is room for.
 pub fn copy(file: &mut KtHandle, offset: u64, out: &mut [u8]) -> i64
     ensures told { TellsText (TextFrom file.old.place.object offset (length out.old))
         (HasNoText file.old.place.object) result out.old out.new }
     ensures same { IsSamePlace file.old.place file.new.place }
 {
-    let object = replace_with(file, (), take);
-    let answer = copy_text(&object, offset, out);
-    replace_with(file, object, give);
-    answer
+    copy_text(&file.place_mut().object, offset, out)
 }
 
 /// Begins a write: the node was entered for a store.
@@ -259,18 +211,6 @@ fn begin_write_at(place: &mut Place) -> i32
     }
 }
 
-fn begin_write_handle(handle: KtHandle, _nothing: ()) -> (KtHandle, i32)
-    ensures entered { result.1 ≡ pos 0 → MayWrite handle.place.object
-        × WasEntered handle.place.seat result.0.place.seat
-        × (result.0.place.object ≡ handle.place.object) }
-    ensures refused { result.1 ≢ pos 0 → WriteRefused handle.place result.0.place }
-    ensures why { result.1 ≢ pos 0 → result.1 ≡ write_error handle.place.object handle.place.seat }
-{
-    let mut boxed = handle.into_box();
-    let answer = begin_write_at(boxed.as_mut());
-    (KtHandle::of(boxed), answer)
-}
-
 /// Begins a write.
 pub fn begin_write(file: &mut KtHandle) -> i32
     ensures entered { result ≡ pos 0 → MayWrite file.old.place.object
@@ -279,7 +219,7 @@ pub fn begin_write(file: &mut KtHandle) -> i32
     ensures refused { result ≢ pos 0 → WriteRefused file.old.place file.new.place }
     ensures why { result ≢ pos 0 → result ≡ write_error file.old.place.object file.old.place.seat }
 {
-    replace_with(file, (), begin_write_handle)
+    begin_write_at(file.place_mut())
 }
 
 /// Whether a file has changed since its last show, in a call that runs.
@@ -299,18 +239,6 @@ fn changed_at(place: &mut Place) -> i32
     }
 }
 
-fn changed_handle(handle: KtHandle, _nothing: ()) -> (KtHandle, i32)
-    ensures same { result.1 ≡ pos 0 → WasPolled false handle.place result.0.place }
-    ensures changed { result.1 ≡ pos 1 → WasPolled true handle.place result.0.place }
-    ensures kept { result.1 ≢ pos 0 → result.1 ≢ pos 1 → IsSamePlace handle.place result.0.place }
-    ensures why { result.1 ≢ pos 0 → result.1 ≢ pos 1 →
-        (result.1 ≡ negsuc 21) × IsNotAsked handle.place.seat handle.place.object }
-{
-    let mut boxed = handle.into_box();
-    let answer = changed_at(boxed.as_mut());
-    (KtHandle::of(boxed), answer)
-}
-
 /// Whether a file has changed since its last show.
 pub fn changed(file: &mut KtHandle) -> i32
     ensures same { result ≡ pos 0 → WasPolled false file.old.place file.new.place }
@@ -319,5 +247,5 @@ pub fn changed(file: &mut KtHandle) -> i32
     ensures why { result ≢ pos 0 → result ≢ pos 1 →
         (result ≡ negsuc 21) × IsNotAsked file.old.place.seat file.old.place.object }
 {
-    replace_with(file, (), changed_handle)
+    changed_at(file.place_mut())
 }

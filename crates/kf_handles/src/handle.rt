@@ -22,7 +22,7 @@ impl Model for KtHandle {
     ghost also_owns = { λ h. handle_owns h.alloc h.at h.place };
 }
 
-/// Where a program in C gets a new handle: nothing lies there, or what the handle owns.
+/// The place in which a program in C gets a new handle: nothing lies there, or what the handle owns.
 #[repr(C)]
 pub struct KtGiven {
     at: *mut u8,
@@ -65,7 +65,7 @@ impl KtHandle {
         self.into_apart().into_box()
     }
 
-    /// The same, where a program gets it.
+    /// The same, for a program that gets it.
     pub(crate) fn give(self) -> KtGiven
         ensures { result.place ≡ Some self.place }
     {
@@ -79,6 +79,22 @@ impl KtHandle {
     {
         let KtHandle { at, alloc: _ } = self;
         at
+    }
+}
+
+impl KtHandle {
+    ghost use Rattle.std.specs.Borrow.{sem};
+    ghost use Rattle.kf_handles.specs.Lending.{LendsPlace};
+
+    /// What lies behind the handle, lent in place: nothing is written to the handle itself. So threads
+    /// whose handles share a cache line do not slow each other down.
+    #[inline(always)]
+    pub(crate) fn place_mut(&mut self) -> &mut Place
+        ensures* writes_back { sem 𝓛 (LendsPlace self.entry result) }
+        ensures value { result.now ≡ self.old.place }
+    {
+        let at = self.at as *mut Place;
+        unsafe { &mut *at }
     }
 }
 

@@ -7,9 +7,8 @@ ghost use Rattle.kf_handles.specs.Numbers.{IsPostOf, IsSameTree, HasPostOf, Post
 use crate::errors::{INVALID, OVERFLOW, error_of};
 use crate::handle::KtHandle;
 use crate::object::{Object, Place, Seat};
-use crate::replies::{KtKey, key_of, put_handle};
+use crate::replies::{KtKey, key_of, put};
 use crate::telling::is_nothing;
-use core::mem::replace_with;
 use kf_core::{Key, Refusal};
 use kf_notify::Post;
 
@@ -30,18 +29,6 @@ pub fn post_of(object: &mut Object, key: Key) -> Result<Post, Refusal>
     }
 }
 
-/// Makes an event counter of the key's slot, if the handle has a tree. The tree comes back as it was.
-pub fn post_of_handle(handle: KtHandle, key: Key) -> (KtHandle, Result<Post, Refusal>)
-    ensures made { IfOk result.1 (λ post. IsPostOf handle.place.object key post) }
-    ensures refused { IfErr result.1 (λ why. PostRefused handle.place.object key why) }
-    ensures tree { IsSameTree handle.place.object result.0.place.object }
-    ensures beside { result.0.place.seat ≡ handle.place.seat }
-{
-    let mut boxed = handle.into_box();
-    let made = post_of(&mut boxed.as_mut().object, key);
-    (KtHandle::of(boxed), made)
-}
-
 /// Makes a post of a node's slot, and puts it behind a handle with nothing behind it.
 pub fn post(handle: &mut KtHandle, key: KtKey, out: &mut KtHandle) -> i32
     ensures posted { result ≡ pos 0 →
@@ -59,10 +46,10 @@ pub fn post(handle: &mut KtHandle, key: KtKey, out: &mut KtHandle) -> i32
     if !is_nothing(out) {
         return INVALID;
     }
-    match replace_with(handle, key_of(key), post_of_handle) {
+    match post_of(&mut handle.place_mut().object, key_of(key)) {
         Ok(post) => {
             let place = Place::of(Seat::None, Object::Post(post));
-            replace_with(out, place, put_handle)
+            put(out.place_mut(), place)
         }
         Err(refusal) => error_of(refusal),
     }
@@ -82,17 +69,6 @@ fn notify_at(object: &mut Object) -> i32
     }
 }
 
-fn notify_handle(handle: KtHandle, _nothing: ()) -> (KtHandle, i32)
-    ensures notified { result.1 ≡ pos 0 → WasNotified handle.place.object result.0.place.object }
-    ensures full { result.1 ≢ pos 0 → WasFull handle.place.object result.0.place.object }
-    ensures why { result.1 ≢ pos 0 → result.1 ≡ notify_error handle.place.object }
-    ensures beside { result.0.place.seat ≡ handle.place.seat }
-{
-    let mut boxed = handle.into_box();
-    let answer = notify_at(&mut boxed.as_mut().object);
-    (KtHandle::of(boxed), answer)
-}
-
 /// Raises the number of a post's slot.
 pub fn notify(post: &mut KtHandle) -> i32
     ensures notified { result ≡ pos 0 → WasNotified post.old.place.object post.new.place.object }
@@ -100,7 +76,7 @@ pub fn notify(post: &mut KtHandle) -> i32
     ensures why { result ≢ pos 0 → result ≡ notify_error post.old.place.object }
     ensures beside { post.new.place.seat ≡ post.old.place.seat }
 {
-    replace_with(post, (), notify_handle)
+    notify_at(&mut post.place_mut().object)
 }
 
 fn number_at(object: &mut Object) -> Option<u64>
@@ -113,18 +89,6 @@ fn number_at(object: &mut Object) -> Option<u64>
     }
 }
 
-fn number_of_handle(handle: KtHandle, _nothing: ()) -> (KtHandle, Option<u64>)
-    ensures took { IfSome result.1 (λ number.
-        TookNumber handle.place.object number result.0.place.object) }
-    ensures none { result.1 ≡ None →
-        (result.0.place.object ≡ handle.place.object) × IsNoPost handle.place.object }
-    ensures beside { result.0.place.seat ≡ handle.place.seat }
-{
-    let mut boxed = handle.into_box();
-    let number = number_at(&mut boxed.as_mut().object);
-    (KtHandle::of(boxed), number)
-}
-
 /// Takes the number of a post's slot.
 pub fn number(post: &mut KtHandle, out: &mut u64) -> i32
     ensures took { result ≡ pos 0 → TookNumber post.old.place.object out.new post.new.place.object }
@@ -133,7 +97,7 @@ pub fn number(post: &mut KtHandle, out: &mut u64) -> i32
     ensures why { result ≢ pos 0 → (result ≡ negsuc 21) × IsNoPost post.old.place.object }
     ensures beside { post.new.place.seat ≡ post.old.place.seat }
 {
-    match replace_with(post, (), number_of_handle) {
+    match number_at(&mut post.place_mut().object) {
         Some(number) => {
             *out = number;
             0

@@ -16,7 +16,7 @@ use crate::object::{Object, Place, Seat};
 use crate::questions::{Question, TreeReply};
 use crate::telling::is_nothing;
 use crate::tree::Tree;
-use core::mem::{replace, replace_with};
+use core::mem::replace;
 use kf_core::{Key, Limits, Node};
 use kf_tree::Stat;
 use std::alloc::Global;
@@ -79,13 +79,11 @@ pub fn told_key(key: Key) -> KtKey
 }
 
 /// Asks what lies behind a handle.
-pub fn ask_handle(handle: KtHandle, question: Question<'_>) -> (KtHandle, TreeReply)
-    ensures told { AnsweredBehind question.entry handle.place.object result.0.place.object result.1 }
-    ensures beside { result.0.place.seat ≡ handle.place.seat }
+pub fn ask_handle(handle: &mut KtHandle, question: Question<'_>) -> TreeReply
+    ensures told { AnsweredBehind question.entry handle.old.place.object handle.new.place.object result }
+    ensures beside { handle.new.place.seat ≡ handle.old.place.seat }
 {
-    let mut boxed = handle.into_box();
-    let reply = replace_with(&mut boxed.as_mut().object, question, ask_object);
-    (KtHandle::of(boxed), reply)
+    ask_object(&mut handle.place_mut().object, question)
 }
 
 /// Asks for a key, and writes it.
@@ -100,7 +98,7 @@ fn named(handle: &mut KtHandle, question: Question<'_>, out: &mut KtKey) -> i32
     ensures why { result ≢ pos 0 →
         ToldWhy question.entry handle.old.place.object handle.new.place.object result }
 {
-    match replace_with(handle, question, ask_handle) {
+    match ask_handle(handle, question) {
         TreeReply::Named(key) => {
             *out = told_key(key);
             0
@@ -177,7 +175,7 @@ pub fn change(handle: &mut KtHandle, question: Question<'_>) -> i32
     ensures why { result ≢ pos 0
         → ToldWhy question.entry handle.old.place.object handle.new.place.object result }
 {
-    match replace_with(handle, question, ask_handle) {
+    match ask_handle(handle, question) {
         TreeReply::Done => 0,
         TreeReply::Refused(refusal) => error_of(refusal),
         _ => INVALID,
@@ -222,7 +220,7 @@ pub fn claim(handle: &mut KtHandle, key: KtKey) -> i32
         (asks.Claim (key_in key)) handle.old.place.object handle.new.place.object result }
 {
     let question = Question::Claim(key_of(key));
-    match replace_with(handle, question, ask_handle) {
+    match ask_handle(handle, question) {
         TreeReply::Done => 0,
         TreeReply::Not => 1,
         TreeReply::Refused(refusal) => error_of(refusal),
@@ -231,7 +229,7 @@ pub fn claim(handle: &mut KtHandle, key: KtKey) -> i32
 }
 
 /// Puts this if there is nothing.
-fn put(place: &mut Place, new: Place) -> i32
+pub fn put(place: &mut Place, new: Place) -> i32
     ensures put { result ≡ pos 0 → IsNothing place.old × (place.new ≡ new) }
     ensures same { result ≢ pos 0 → place.new ≡ place.old }
     ensures room { is_nothing place.old ≡ true → result ≡ pos 0 }
@@ -243,17 +241,6 @@ fn put(place: &mut Place, new: Place) -> i32
         new.end();
         INVALID
     }
-}
-
-/// Puts this behind a handle with nothing behind it.
-pub fn put_handle(handle: KtHandle, new: Place) -> (KtHandle, i32)
-    ensures put { result.1 ≡ pos 0 → IsNothing handle.place × (result.0.place ≡ new) }
-    ensures same { result.1 ≢ pos 0 → result.0.place ≡ handle.place }
-    ensures room { is_nothing handle.place ≡ true → result.1 ≡ pos 0 }
-{
-    let mut boxed = handle.into_box();
-    let answer = put(boxed.as_mut(), new);
-    (KtHandle::of(boxed), answer)
 }
 
 /// Takes a hold of a node, and puts it behind a handle with nothing behind it.
@@ -272,10 +259,10 @@ pub fn hold(handle: &mut KtHandle, key: KtKey, out: &mut KtHandle) -> i32
         return INVALID;
     }
     let key = key_of(key);
-    match replace_with(handle, Question::Hold(key), ask_handle) {
+    match ask_handle(handle, Question::Hold(key)) {
         TreeReply::Held(held) => {
             let place = Place::of(Seat::Hold(held), Object::Empty);
-            replace_with(out, place, put_handle)
+            put(out.place_mut(), place)
         }
         TreeReply::Refused(refusal) => error_of(refusal),
         _ => INVALID,
@@ -320,7 +307,7 @@ pub fn make_tree(alloc: Global, handle: &mut KtHandle, slots: u32, holds: u32) -
     match Box::new(alloc, tree) {
         Ok(tree) => {
             let place = Place::of(Seat::None, Object::Tree(tree));
-            replace_with(handle, place, put_handle)
+            put(handle.place_mut(), place)
         }
         Err(_) => NO_MEMORY,
     }
@@ -343,18 +330,6 @@ fn end(place: &mut Place) -> i32
     }
 }
 
-fn end_handle(handle: KtHandle, _nothing: ()) -> (KtHandle, i32)
-    ensures empty { (result.1 ≡ pos 0) ⊎ (result.1 ≡ pos 1) →
-        IsNothing result.0.place × HasNoHidingIn handle.place.object }
-    ensures owed { (result.1 ≡ pos 0) ⊎ (result.1 ≡ pos 1) → WakeOwed handle.place.seat result.1 }
-    ensures busy { result.1 ≢ pos 0 → result.1 ≢ pos 1 →
-        (result.1 ≡ negsuc 15) × HasHidingIn handle.place.object × (result.0.place ≡ handle.place) }
-{
-    let mut boxed = handle.into_box();
-    let answer = end(boxed.as_mut());
-    (KtHandle::of(boxed), answer)
-}
-
 /// Drops what lies behind a handle: 1 if a sleeper may wait for that, and -EBUSY of a tree with
 /// a hidden file in which somebody may be.
 pub fn clear(handle: &mut KtHandle) -> i32
@@ -364,7 +339,7 @@ pub fn clear(handle: &mut KtHandle) -> i32
     ensures busy { result ≢ pos 0 → result ≢ pos 1 → (result ≡ negsuc 15)
         × HasHidingIn handle.old.place.object × (handle.new.place ≡ handle.old.place) }
 {
-    replace_with(handle, (), end_handle)
+    end(handle.place_mut())
 }
 
 /// Frees a handle and drops what lies behind it, as `clear` does. If that is refused the handle stays

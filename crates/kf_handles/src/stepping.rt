@@ -1,67 +1,10 @@
-//! The steps of a hold and a call, taken where they lie.
+//! The steps of a hold and a call, taken in place: a program's handle is only read.
 ghost use Rattle.std.specs.Prelude.{◌≡◌, ◌≢◌, ◌⊎◌, pos, negsuc};
 ghost use Rattle.kf_handles.specs.Steps.{WasEntered, WasRefused, WasLeft, WasBroken, WasRestored, HasNoReference, IsNotRunning, IsNotBroken, enter_error, wake_of};
 
 use crate::handle::KtHandle;
 use crate::steps;
 use core::mem::replace_with;
-
-#[inline(always)]
-fn enter_handle(handle: KtHandle, nothing: ()) -> (KtHandle, i32)
-    ensures entered { result.1 ≡ pos 0 → WasEntered handle.place.seat result.0.place.seat }
-    ensures refused { result.1 ≢ pos 0 → WasRefused handle.place.seat result.0.place.seat }
-    ensures why { result.1 ≢ pos 0 → result.1 ≡ enter_error handle.place.seat }
-    ensures beside { result.0.place.object ≡ handle.place.object }
-{
-    let mut boxed = handle.into_box();
-    let answer = replace_with(&mut boxed.as_mut().seat, nothing, steps::enter);
-    (KtHandle::of(boxed), answer)
-}
-
-#[inline(always)]
-fn leave_handle(handle: KtHandle, nothing: ()) -> (KtHandle, i32)
-    ensures left { (result.1 ≡ pos 0) ⊎ (result.1 ≡ pos 1) →
-        WasLeft handle.place.seat result.0.place.seat }
-    ensures owed { (result.1 ≡ pos 0) ⊎ (result.1 ≡ pos 1) →
-        result.1 ≡ wake_of result.0.place.seat }
-    ensures same { result.1 ≢ pos 0 → result.1 ≢ pos 1 → result.0.place.seat ≡ handle.place.seat }
-    ensures why { result.1 ≢ pos 0 → result.1 ≢ pos 1 →
-        (result.1 ≡ negsuc 21) × HasNoReference handle.place.seat }
-    ensures beside { result.0.place.object ≡ handle.place.object }
-{
-    let mut boxed = handle.into_box();
-    let answer = replace_with(&mut boxed.as_mut().seat, nothing, steps::leave);
-    (KtHandle::of(boxed), answer)
-}
-
-#[inline(always)]
-fn break_handle(handle: KtHandle, _nothing: ()) -> (KtHandle, i32)
-    ensures broken { (result.1 ≡ pos 0) ⊎ (result.1 ≡ pos 1) →
-        WasBroken handle.place.seat result.0.place.seat }
-    ensures owed { (result.1 ≡ pos 0) ⊎ (result.1 ≡ pos 1) →
-        result.1 ≡ wake_of result.0.place.seat }
-    ensures same { result.1 ≢ pos 0 → result.1 ≢ pos 1 → result.0.place.seat ≡ handle.place.seat }
-    ensures why { result.1 ≢ pos 0 → result.1 ≢ pos 1 →
-        (result.1 ≡ negsuc 21) × IsNotRunning handle.place.seat }
-    ensures beside { result.0.place.object ≡ handle.place.object }
-{
-    let mut boxed = handle.into_box();
-    let answer = steps::break_off(&mut boxed.as_mut().seat);
-    (KtHandle::of(boxed), answer)
-}
-
-#[inline(always)]
-fn restore_handle(handle: KtHandle, _nothing: ()) -> (KtHandle, i32)
-    ensures restored { result.1 ≡ pos 0 → WasRestored handle.place.seat result.0.place.seat }
-    ensures same { result.1 ≢ pos 0 → result.0.place.seat ≡ handle.place.seat }
-    ensures why { result.1 ≢ pos 0 →
-        (result.1 ≡ negsuc 21) × IsNotBroken handle.place.seat }
-    ensures beside { result.0.place.object ≡ handle.place.object }
-{
-    let mut boxed = handle.into_box();
-    let answer = steps::restore(&mut boxed.as_mut().seat);
-    (KtHandle::of(boxed), answer)
-}
 
 /// Tries for a reference.
 #[inline(always)]
@@ -71,7 +14,7 @@ pub fn enter(hold: &mut KtHandle) -> i32
     ensures why { result ≢ pos 0 → result ≡ enter_error hold.old.place.seat }
     ensures beside { hold.new.place.object ≡ hold.old.place.object }
 {
-    replace_with(hold, (), enter_handle)
+    replace_with(&mut hold.place_mut().seat, (), steps::enter)
 }
 
 /// Gives the reference back.
@@ -85,7 +28,7 @@ pub fn leave(call: &mut KtHandle) -> i32
         (result ≡ negsuc 21) × HasNoReference call.old.place.seat }
     ensures beside { call.new.place.object ≡ call.old.place.object }
 {
-    replace_with(call, (), leave_handle)
+    replace_with(&mut call.place_mut().seat, (), steps::leave)
 }
 
 /// Gives the reference up inside the callback.
@@ -98,7 +41,7 @@ pub fn break_off(call: &mut KtHandle) -> i32
         (result ≡ negsuc 21) × IsNotRunning call.old.place.seat }
     ensures beside { call.new.place.object ≡ call.old.place.object }
 {
-    replace_with(call, (), break_handle)
+    steps::break_off(&mut call.place_mut().seat)
 }
 
 /// Takes a reference again.
@@ -109,5 +52,5 @@ pub fn restore(call: &mut KtHandle) -> i32
         (result ≡ negsuc 21) × IsNotBroken call.old.place.seat }
     ensures beside { call.new.place.object ≡ call.old.place.object }
 {
-    replace_with(call, (), restore_handle)
+    steps::restore(&mut call.place_mut().seat)
 }

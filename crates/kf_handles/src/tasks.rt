@@ -15,26 +15,22 @@ use crate::replies::{KtKey, key_of};
 use crate::tree::step;
 use core::mem::replace_with;
 
-/// What lies there after a step, and what it returns.
-fn step_object(object: Object, task: Task) -> (Object, TreeReply)
-    ensures { SteppedBehind task object result.0 result.1 }
+/// Makes a step of what lies there.
+fn step_object(object: &mut Object, task: Task) -> TreeReply
+    ensures { SteppedBehind task object.old object.new result }
 {
     match object {
-        Object::Tree(mut tree) => {
-            let reply = replace_with(tree.as_mut(), task, step);
-            (Object::Tree(tree), reply)
-        }
-        other => (other, TreeReply::Wrong),
+        Object::Tree(tree) => replace_with(tree.as_mut(), task, step),
+        _ => TreeReply::Wrong,
     }
 }
 
-fn step_handle(handle: KtHandle, task: Task) -> (KtHandle, TreeReply)
-    ensures told { SteppedBehind task handle.place.object result.0.place.object result.1 }
-    ensures beside { result.0.place.seat ≡ handle.place.seat }
+/// Makes a step of what lies behind a handle.
+fn step_handle(handle: &mut KtHandle, task: Task) -> TreeReply
+    ensures told { SteppedBehind task handle.old.place.object handle.new.place.object result }
+    ensures beside { handle.new.place.seat ≡ handle.old.place.seat }
 {
-    let mut boxed = handle.into_box();
-    let reply = replace_with(&mut boxed.as_mut().object, task, step_object);
-    (KtHandle::of(boxed), reply)
+    step_object(&mut handle.place_mut().object, task)
 }
 
 /// Removes a subtree as far as it can be without waiting: 1 if this took the node out, and 0 if it was
@@ -52,7 +48,7 @@ pub fn remove(handle: &mut KtHandle, key: KtKey) -> i32
         (asks.Remove (key_in key)) handle.old.place.object handle.new.place.object result }
 {
     let task = Task::Remove(key_of(key));
-    match replace_with(handle, task, step_handle) {
+    match step_handle(handle, task) {
         TreeReply::Done => 1,
         TreeReply::Gone => 0,
         TreeReply::Not => AGAIN,
@@ -74,7 +70,7 @@ pub fn hide(handle: &mut KtHandle, key: KtKey) -> i32
         (asks.Hide (key_in key)) handle.old.place.object handle.new.place.object result }
 {
     let task = Task::Hide(key_of(key));
-    match replace_with(handle, task, step_handle) {
+    match step_handle(handle, task) {
         TreeReply::Done => 0,
         TreeReply::Not => AGAIN,
         TreeReply::Refused(refusal) => error_of(refusal),
@@ -95,7 +91,7 @@ pub fn unhide(handle: &mut KtHandle, key: KtKey) -> i32
         (asks.Unhide (key_in key)) handle.old.place.object handle.new.place.object result }
 {
     let task = Task::Unhide(key_of(key));
-    match replace_with(handle, task, step_handle) {
+    match step_handle(handle, task) {
         TreeReply::Done => 0,
         TreeReply::Not => AGAIN,
         TreeReply::Refused(refusal) => error_of(refusal),

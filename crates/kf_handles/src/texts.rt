@@ -9,7 +9,6 @@ use crate::errors::{RANGE, error_of};
 use crate::handle::KtHandle;
 use crate::object::Object;
 use crate::replies::{KtKey, key_of};
-use core::mem::replace_with;
 use kf_core::{Key, Refusal};
 use kf_index::Name;
 use kf_tree::State;
@@ -46,16 +45,6 @@ fn name_in(object: &Object, key: Key, alloc: Global) -> Result<Vec<u8>, Refusal>
     }
 }
 
-fn name_of(handle: KtHandle, asked: (Key, Global)) -> (KtHandle, Result<Vec<u8>, Refusal>)
-    ensures same { result.0.place ≡ handle.place }
-    ensures name { IfOk result.1 (λ name. NameIn handle.place.object asked.0 name.items) }
-    ensures refused { IfErr result.1 (λ why. NameRefused handle.place.object asked.0 why) }
-{
-    let boxed = handle.into_box();
-    let told = name_in(&boxed.as_ref().object, asked.0, asked.1);
-    (KtHandle::of(boxed), told)
-}
-
 /// The name of a node.
 pub fn name(alloc: Global, handle: &mut KtHandle, key: KtKey, out: &mut [u8]) -> i64
     ensures same { handle.new.place ≡ handle.old.place }
@@ -64,7 +53,7 @@ pub fn name(alloc: Global, handle: &mut KtHandle, key: KtKey, out: &mut [u8]) ->
         (NameRefused handle.old.place.object (key_in key))
         result out.old out.new }
 {
-    match replace_with(handle, (key_of(key), alloc), name_of) {
+    match name_in(&handle.place_mut().object, key_of(key), alloc) {
         Ok(name) => copied(name.as_slice(), out),
         Err(refusal) => i64::from(error_of(refusal)),
     }
@@ -81,16 +70,6 @@ fn path_in(object: &Object, key: Key) -> Result<Vec<u8>, Refusal>
     }
 }
 
-fn path_of(handle: KtHandle, key: Key) -> (KtHandle, Result<Vec<u8>, Refusal>)
-    ensures same { result.0.place ≡ handle.place }
-    ensures path { IfOk result.1 (λ path. PathIn handle.place.object key path.items) }
-    ensures refused { IfErr result.1 (λ why. PathRefused handle.place.object key why) }
-{
-    let boxed = handle.into_box();
-    let told = path_in(&boxed.as_ref().object, key);
-    (KtHandle::of(boxed), told)
-}
-
 /// The path of a node.
 pub fn path(handle: &mut KtHandle, key: KtKey, out: &mut [u8]) -> i64
     ensures same { handle.new.place ≡ handle.old.place }
@@ -99,7 +78,7 @@ pub fn path(handle: &mut KtHandle, key: KtKey, out: &mut [u8]) -> i64
         (PathRefused handle.old.place.object (key_in key))
         result out.old out.new }
 {
-    match replace_with(handle, key_of(key), path_of) {
+    match path_in(&handle.place_mut().object, key_of(key)) {
         Ok(path) => copied(path.as_slice(), out),
         Err(refusal) => i64::from(error_of(refusal)),
     }
@@ -116,16 +95,6 @@ fn link_text_in(object: &Object, key: Key) -> Result<Vec<u8>, Refusal>
     }
 }
 
-fn link_text_of(handle: KtHandle, key: Key) -> (KtHandle, Result<Vec<u8>, Refusal>)
-    ensures same { result.0.place ≡ handle.place }
-    ensures text { IfOk result.1 (λ text. LinkTextIn handle.place.object key text.items) }
-    ensures refused { IfErr result.1 (λ why. LinkTextRefused handle.place.object key why) }
-{
-    let boxed = handle.into_box();
-    let told = link_text_in(&boxed.as_ref().object, key);
-    (KtHandle::of(boxed), told)
-}
-
 /// The text of a link.
 pub fn link_text(handle: &mut KtHandle, key: KtKey, out: &mut [u8]) -> i64
     ensures same { handle.new.place ≡ handle.old.place }
@@ -134,7 +103,7 @@ pub fn link_text(handle: &mut KtHandle, key: KtKey, out: &mut [u8]) -> i64
         (LinkTextRefused handle.old.place.object (key_in key))
         result out.old out.new }
 {
-    match replace_with(handle, key_of(key), link_text_of) {
+    match link_text_in(&handle.place_mut().object, key_of(key)) {
         Ok(text) => copied(text.as_slice(), out),
         Err(refusal) => i64::from(error_of(refusal)),
     }
@@ -173,18 +142,6 @@ fn next_in(object: &Object, dir: Key, after: &[u8]) -> Result<Name, Refusal>
     }
 }
 
-fn next_of(handle: KtHandle, asked: (Key, &[u8])) -> (KtHandle, Result<Name, Refusal>)
-    ensures same { result.0.place ≡ handle.place }
-    ensures name { IfOk result.1
-        (λ name. NextIn handle.place.object asked.entry.0 asked.entry.1.now name) }
-    ensures refused { IfErr result.1
-        (λ why. NextRefusedIn handle.place.object asked.entry.0 asked.entry.1.now why) }
-{
-    let boxed = handle.into_box();
-    let told = next_in(&boxed.as_ref().object, asked.0, asked.1);
-    (KtHandle::of(boxed), told)
-}
-
 /// The name of the next child.
 pub fn next(handle: &mut KtHandle, dir: KtKey, after: &[u8], out: &mut [u8]) -> i64
     ensures same { handle.new.place ≡ handle.old.place }
@@ -193,7 +150,7 @@ pub fn next(handle: &mut KtHandle, dir: KtKey, after: &[u8], out: &mut [u8]) -> 
         (NextRefusedIn handle.old.place.object (key_in dir)
         after.now) result out.old out.new }
 {
-    match replace_with(handle, (key_of(dir), after), next_of) {
+    match next_in(&handle.place_mut().object, key_of(dir), after) {
         Ok(name) => copied(name.bytes(), out),
         Err(refusal) => i64::from(error_of(refusal)),
     }

@@ -60,7 +60,7 @@ impl PostSeat {
         sleepers.fetch_sub(1, SeqCst);
     }
 
-    /// Wakes all sleepers on the slot's number, if there are any.
+    /// Wakes all sleepers on the slot's number, and all threads that watch several slots, if there are any.
     ///
     /// Condition: this seat has raised the number, and has loaded none since.
     pub(crate) fn wake_all(&self, slot: u32)
@@ -70,5 +70,6 @@ impl PostSeat {
         if self.table.sleepers[slot as usize].load(SeqCst) != 0 {
             self.table.numbers.shared.wake_all(slot as usize);
         }
+        self.table.watchers.wake();
     }
 }

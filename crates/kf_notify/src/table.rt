@@ -1,8 +1,9 @@
-//! The table of numbers and its rule, and the counts of those who sleep.
+//! The table of numbers and its rule, and the counts of the threads that sleep.
 ghost use Rattle.std.specs.Prelude.{◌≡◌, IfOk, IfErr, vec_len};
 ghost use Rattle.kf_core.specs.declared.refusal.Refusal.TheVariants.{NoMemory};
 
 use crate::sight::{NumberOpening, NumberSight};
+use crate::watch::Watchers;
 use atomic_table::{Table, TableRule};
 use kf_core::Refusal;
 use std::alloc::Global;
@@ -23,12 +24,14 @@ impl TableRule<(), NumberSight, NumberOpening> for NumberRule {
 
 pub(crate) type NumberTable = Table<(), NumberSight, NumberOpening, NumberRule, Global>;
 
-/// The numbers of all slots, and beside them for each how many threads sleep on it. No clause speaks of these
-/// counts: who sleeps and who wakes read them, and nobody else.
+/// The numbers of all slots, and beside them for each how many threads sleep on it, and how many watch
+/// several. No clause speaks of these counts: threads that sleep and threads that wake read them, and nobody
+/// else.
 #[derive(Drop)]
 pub struct SlotTable {
     pub(crate) numbers: NumberTable,
     pub(crate) sleepers: Vec<AtomicU64>,
+    pub(crate) watchers: Watchers,
 }
 
 /// For this many slots a count of sleepers, each 0.

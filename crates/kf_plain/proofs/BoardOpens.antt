@@ -17,9 +17,9 @@ use Rattle.kf_core.specs.Refusals.{unless}
 use Rattle.kf_core.specs.declared.caller.Phase.TheVariants.{Spent}
 use Rattle.kf_core.specs.declared.refusal.Refusal.TheVariants.{Busy, Invalid}
 use Rattle.kf_tree.specs.Paths.{and_then, seen}
-use Rattle.kf_files.specs.declared.contents.Want.{Want}
-use Rattle.kf_files.specs.Files.{FileState, tag_of}
-use Rattle.kf_files.specs.Opened.{Held}
+use Rattle.kf_pages.specs.declared.contents.Want.{Want}
+use Rattle.kf_pages.specs.Files.{FileState, tag_of}
+use Rattle.kf_pages.specs.Held.{Held}
 use Rattle.kf_plain.specs.PlainFiles.{opened_node, open_held, opened_key, new_open, known_file}
 use Rattle.kf_plain.specs.Settled.{ok_unless, IsWhyFrom, IsRefusedFrom}
 use Rattle.kf_plain.proofs.Holding.{AreHeld, held_opened, held_closed}

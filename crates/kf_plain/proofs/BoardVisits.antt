@@ -28,10 +28,10 @@ use Rattle.kf_core.specs.declared.records.Record.{Record}
 use Rattle.kf_core.specs.Tree.{record_at}
 use Rattle.kf_core.proofs.FoundRecords.{found_in}
 use Rattle.kf_table.specs.Live.{lives_in, live_in}
-use Rattle.kf_files.specs.declared.contents.Want.{Want}
-use Rattle.kf_files.specs.declared.ops.Fault.{Fault}
-use Rattle.kf_files.specs.declared.ops.FileError.{FileError}
-use Rattle.kf_files.specs.Files.{FileState, ShowResult, Reads, Writes, Opens}
+use Rattle.kf_pages.specs.declared.contents.Want.{Want}
+use Rattle.kf_pages.specs.declared.ops.Fault.{Fault}
+use Rattle.kf_pages.specs.declared.ops.FileError.{FileError}
+use Rattle.kf_pages.specs.Files.{FileState, ShowResult, Reads, Writes, Opens}
 use Rattle.kf_plain.specs.Nodes.{Nodes, nodes_of, last_of, AreTied, Waits, StillWaits, spent_on, with_spent}
 use Rattle.kf_plain.specs.Removals.{PinsRefused, still_on, with_callers}
 use Rattle.kf_plain.specs.Visits.{VisitsLive, file_cause}

@@ -10,8 +10,8 @@ use Rattle.kf_plain.specs.declared.nodes.hiding.BoardToken.{BoardToken}
 use Rattle.kf_plain.specs.Nodes.{Nodes, StillWaits}
 use Rattle.kf_plain.specs.Plain.{Plain, OpenPlainFile, with_file}
 use Rattle.kf_plain.specs.PlainInside.{plain_of, plain_file, plain_files, plain_tokens, IsWholeBoard, IsShort}
-use Rattle.kf_files.specs.declared.ops.Fault.{Fault}
-use Rattle.kf_files.specs.Files.{FileState, ShowResult, Stored}
+use Rattle.kf_pages.specs.declared.ops.Fault.{Fault}
+use Rattle.kf_pages.specs.Files.{FileState, ShowResult, Stored}
 use Rattle.kf_core.specs.Calls.{Visit, unvisited, tried}
 use Rattle.kf_plain.specs.Visits.{VisitsLive}
 use Rattle.kf_plain.specs.TextTable.{ShowsOf, StoresIn}

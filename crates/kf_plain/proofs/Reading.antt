@@ -3,10 +3,10 @@ use Rattle.std.proofs.Common.{◌≡◌, inl, inr, ℕ, zero, suc, ◌+◌, ◌<
 use Rattle.std.specs.Prelude.{Option, None, Some, Result, Ok, Err}
 use Rattle.std.proofs.lemmas.List.{length-take}
 use Rattle.kf_core.specs.Calls.{Visit, unvisited, tried}
-use Rattle.kf_files.specs.declared.ops.Fault.{Fault}
-use Rattle.kf_files.specs.declared.ops.FileError.{FileError}
+use Rattle.kf_pages.specs.declared.ops.Fault.{Fault}
+use Rattle.kf_pages.specs.declared.ops.FileError.{FileError}
 use Rattle.std.specs.Option.{unwrap_or}
-use Rattle.kf_files.specs.Files.{FileState, ShowResult, Reads, file_after, text_of, text_in_file, slice}
+use Rattle.kf_pages.specs.Files.{FileState, ShowResult, Reads, file_after, text_of, text_in_file, slice}
 use Rattle.kf_plain.specs.PlainInside.{IsShort}
 
 text_short : (page : List ℕ) → length (text_of page) ≤ 4095

@@ -6,9 +6,9 @@ use Rattle.kf_core.specs.Refusals.{unless, first_cause}
 use Rattle.kf_core.specs.Calls.{Visit, tried}
 use Rattle.kf_table.specs.Live.{live_in}
 use Rattle.kf_tree.specs.Paths.{and_then}
-use Rattle.kf_files.specs.declared.ops.Fault.{Fault}
-use Rattle.kf_files.specs.declared.ops.FileError.{FileError}
-use Rattle.kf_files.specs.Files.{Writes, Stored, told_of}
+use Rattle.kf_pages.specs.declared.ops.Fault.{Fault}
+use Rattle.kf_pages.specs.declared.ops.FileError.{FileError}
+use Rattle.kf_pages.specs.Files.{Writes, Stored, told_of}
 use Rattle.kf_script.specs.Requests.{write_file}
 use Rattle.kf_plain.specs.Plain.{Plain, OpenPlainFile}
 use Rattle.kf_plain.specs.PlainFiles.{known_file, stored_file, VisitsNode, StoresText, StoresOnBoard}

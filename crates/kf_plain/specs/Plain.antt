@@ -5,7 +5,7 @@ use Rattle.kf_core.specs.declared.key.Key.{Key}
 use Rattle.kf_core.specs.declared.command.Command.{Command}
 use Rattle.kf_core.specs.Commands.{root_alone}
 use Rattle.kf_tree.specs.TreeLogs.{TreeLog}
-use Rattle.kf_files.specs.Files.{FileState}
+use Rattle.kf_pages.specs.Files.{FileState}
 use Rattle.kf_plain.specs.Nodes.{IsFreeKeyOf, listed, logged, root_key}
 
 -- an open file: the key of its node, and what it keeps

@@ -12,9 +12,9 @@ use Rattle.kf_core.specs.Calls.{Visit}
 use Rattle.kf_tree.specs.Paths.{and_then, walked, seen}
 use Rattle.kf_tree.specs.Causes.{linked_cause}
 use Rattle.kf_table.specs.Live.{live_in}
-use Rattle.kf_files.specs.declared.contents.Want.{Want}
-use Rattle.kf_files.specs.declared.ops.Fault.{Fault}
-use Rattle.kf_files.specs.Files.{ShowResult, open_cause, new_file}
+use Rattle.kf_pages.specs.declared.contents.Want.{Want}
+use Rattle.kf_pages.specs.declared.ops.Fault.{Fault}
+use Rattle.kf_pages.specs.Files.{ShowResult, open_cause, new_file}
 use Rattle.kf_tree.specs.TreeLogs.{TreeLog}
 use Rattle.kf_plain.specs.Plain.{Plain, OpenPlainFile, file_at, holder_count, with_text}
 use Rattle.kf_plain.specs.Visits.{VisitsLive, kind_cause}

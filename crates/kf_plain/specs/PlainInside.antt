@@ -10,8 +10,8 @@ use Rattle.kf_plain.specs.declared.nodes.visits.BoardFile.{BoardFile}
 use Rattle.kf_plain.specs.declared.nodes.hiding.BoardToken.{BoardToken}
 use Rattle.kf_core.specs.declared.key.Key.{Key}
 use Rattle.kf_core.specs.Tree.{record_at}
-use Rattle.kf_files.specs.declared.contents.Want.{Want}
-use Rattle.kf_files.specs.Files.{tag_of, new_file}
+use Rattle.kf_pages.specs.declared.contents.Want.{Want}
+use Rattle.kf_pages.specs.Files.{tag_of, new_file}
 use Rattle.kf_plain.specs.PlainFiles.{opened_node}
 use Rattle.kf_world.specs.Bounded.{hold_count}
 use Rattle.kf_plain.specs.Nodes.{Nodes, Waits, AllIdle, hidden_on}

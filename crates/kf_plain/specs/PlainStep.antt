@@ -9,8 +9,8 @@ use Rattle.kf_core.specs.PostOrder.{IsPostOrder}
 use Rattle.kf_tree.specs.Canonical.{IsCanonical}
 use Rattle.kf_tree.specs.Listing.{IsListing}
 use Rattle.kf_tree.specs.Links.{HasLinkText}
-use Rattle.kf_files.specs.declared.ops.FileError.{FileError}
-use Rattle.kf_files.specs.Files.{FileState, Reads, Writes, Polls, Stored}
+use Rattle.kf_pages.specs.declared.ops.FileError.{FileError}
+use Rattle.kf_pages.specs.Files.{FileState, Reads, Writes, Polls, Stored}
 use Rattle.kf_script.specs.Lines.{has_bytes}
 use Rattle.kf_script.specs.Requests.{RequestWords, make_directory, make_file, make_link, activate, list_names, stat, read_link, move, remove, open_file, read_file, write_file, poll_file, notify, close_file, hide, show, count_commands, compact, plug, unplug, wait}
 use Rattle.kf_script.specs.ReplyText.{done_text, key_text, names_text, poll_text, refusal_text}

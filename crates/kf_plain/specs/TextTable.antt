@@ -1,6 +1,6 @@
 -- The texts of files, by slot, and their callbacks.
 use Rattle.std.specs.Prelude.{◌≡◌, ◌⊎◌, ℕ, List, [], length, take, slice_set, slice_index_or, Result, Ok, Err}
-use Rattle.kf_files.specs.declared.ops.Fault.{Fault}
+use Rattle.kf_pages.specs.declared.ops.Fault.{Fault}
 
 -- a show fills the page with the first 4,096 bytes of the slot's text
 abbrev pub ShowsOf : List (List ℕ) → ℕ → Result (List ℕ) Fault → List (List ℕ) → Type 0

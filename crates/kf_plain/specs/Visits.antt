@@ -5,8 +5,8 @@ use Rattle.kf_core.specs.declared.key.Node.TheVariants.{Dir, File, Link}
 use Rattle.kf_core.specs.declared.refusal.Refusal.{Refusal}
 use Rattle.kf_core.specs.declared.refusal.Refusal.TheVariants.{IsDir, Invalid}
 use Rattle.kf_core.specs.Calls.{Visit, unvisited, tried}
-use Rattle.kf_files.specs.declared.contents.Want.{Want}
-use Rattle.kf_files.specs.Files.{open_cause}
+use Rattle.kf_pages.specs.declared.contents.Want.{Want}
+use Rattle.kf_pages.specs.Files.{open_cause}
 
 -- a visit to a node of the one caller: a try gives a call exactly when the node is live
 abbrev pub VisitsLive : {Done : Type 0} → Bool → Type 0 → (Done → Type 0) → Visit Done → Type 0

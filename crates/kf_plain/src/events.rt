@@ -4,7 +4,7 @@ ghost use Rattle.std.specs.Prelude.{◌≡◌, ◌+◌, ◌-◌, ◌^◌, ◌<�
 ghost use Rattle.kf_core.specs.declared.refusal.Refusal.TheVariants.{NoMemory, NoSpace};
 
 use kf_core::{ActiveCall, Refusal, SlotList};
-use kf_files::EventNumbers;
+use kf_pages::EventNumbers;
 use std::alloc::Global;
 use std::marker::Model;
 

@@ -10,7 +10,7 @@ ghost use Rattle.kf_world.specs.Bounded.{hold_count};
 ghost use Rattle.kf_plain.specs.Nodes.{IsFreeKeyOf, NodePinRefused, Waits, new_nodes};
 
 use kf_core::{Key, Limits, Refusal};
-use kf_files::Page;
+use kf_pages::Page;
 use kf_tree::State;
 use kf_world::World;
 use std::alloc::Global;

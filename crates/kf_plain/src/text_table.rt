@@ -6,7 +6,7 @@ ghost use Rattle.kf_core.specs.declared.refusal.Refusal.TheVariants.{NoMemory};
 ghost use Rattle.kf_plain.specs.TextTable.{ShowsOf, StoresIn};
 
 use kf_core::{ActiveCall, Refusal, SlotMap};
-use kf_files::{Fault, Ops, Page};
+use kf_pages::{Fault, Ops, Page};
 use std::alloc::{AllocError, Global};
 use std::marker::Model;
 

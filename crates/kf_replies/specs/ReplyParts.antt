@@ -1,7 +1,7 @@
 -- The replies that speak of the types of a tree, or of a file.
 use Rattle.std.specs.Prelude.{ℕ, not, List, decimal, Result, Ok, Err, if◌then◌else◌}
-use Rattle.kf_files.specs.declared.ops.FileError.{FileError}
-use Rattle.kf_files.specs.declared.ops.FileError.TheVariants.{Refused, Callback}
+use Rattle.kf_pages.specs.declared.ops.FileError.{FileError}
+use Rattle.kf_pages.specs.declared.ops.FileError.TheVariants.{Refused, Callback}
 use Rattle.kf_tree.specs.declared.stat.Stat.{Stat}
 use Rattle.kf_script.specs.declared.reply.NodeState.{NodeState}
 use Rattle.kf_script.specs.declared.reply.NodeState.TheVariants.{Removing, Off, Hidden, Live}

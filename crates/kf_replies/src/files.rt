@@ -3,7 +3,7 @@
 ghost use Rattle.std.specs.Prelude.{◌≡◌};
 ghost use Rattle.kf_replies.specs.ReplyParts.{count_text, error_text};
 
-use kf_files::FileError;
+use kf_pages::FileError;
 use kf_script::Reply;
 
 /// Writes what a read or a write of a file met: a refusal, or the fault of a callback.

@@ -14,7 +14,7 @@ use std::alloc::Global;
 use std::convert::AsStr;
 
 /// The program's version.
-const VERSION: &str = "0.3.0";
+const VERSION: &str = "0.4.0";
 
 /// What the program does, as help prints it.
 const ABOUT: &str = "Runs a script on an attribute tree that behaves like Linux kernfs.\n\n\

@@ -24,7 +24,7 @@ use Rattle.kf_words.proofs.HoldSteps.{release_owes, part_owes, miss_owes}
 abbrev pub no_step : Step (Unit {0})
 no_step = step 0 0 0 0 none
 
--- what a step of a caller with this view owes, where the word i of a table of this many words becomes f of what it was
+-- what a step of a caller with this view owes, if the word i of a table of this many words becomes f of what it was
 abbrev pub Owes : ℕ → CallerView → ℕ → (ℕ → ℕ) → (ℕ → CallerView → CallerView) → Type 0
 Owes count c i f after =
     (words : List ℕ) (m : MasterView) (cs : List CallerView) (j : ℕ) → length m.slots ≡ count → Shows words m cs → get_elem? cs j ≡ some c → get_or words i 0 < 18446744073709551616

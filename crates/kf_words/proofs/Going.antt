@@ -280,7 +280,7 @@ module _ (slots limit : ℕ) (t t' : Table) (h0 : Shown slots limit t) (m : Mast
             (inr (inr (inr (inl (record { kind_is = inl (slot, refl); key = key; is = came }))))),
       )
 
-  -- where it was attended, it is a Pin
+  -- if it was attended, it is a Pin
   pub split_pins : (slot : ℕ) (state : SlotState) → slice_get m.slots slot ≡ Some state → m.pinning ≡ Some slot → MayPin (bare_world m cs) (last_key slot state)
       → t' ≡ record { words = t.words; homes = t.homes; views = set t.views 0 (seat.Master (after_split m)) ++ seat.Caller (hold_for m m.pinning) ∷ [] }
       → BareStep (world t) (Pin (length cs) (last_key slot state)) (world t')

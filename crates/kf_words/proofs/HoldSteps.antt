@@ -180,7 +180,7 @@ module _ (words : List ℕ) (m : MasterView) (cs : List CallerView) (j : ℕ) (c
       (λ found st. ((λ f. absurd (taken (st.0 f))), (λ room. omega arith)))
       (Undo j) (ap (λ (p : Phase). with_phase world j c.key p) phase ∙ unmoved j shows at holding)
 
-  -- one hold more of its own slot
+  -- one hold more of the caller's slot
   pub count_owes : is_waiting c.phase ≡ true → c.undo_due ≡ false → c.pinning ≡ None → HasSpare m.limit hold → hold < 18446744073709551616
       → Shows (set words (hold_index slot) ((hold + 1) % 2 ^ 64)) m (set cs j (after_count hold c))
   count_owes waits settled single spare small =

@@ -95,7 +95,7 @@ module _ (o : Opening) (t : SeenTable) (h : Kept o t) (id : ℕ) (before : Sight
       (λ (x : (0 ≢ id) × (get_elem? t.views 0 ≡ some m)). h.notes m x.1 ∙ sym (quiet_after h.log kind (others (λ f. x.0 (sym f)))))
       (at_set t.views id 0 after m e)
 
-  -- what each seat was told is a beginning of the longer run
+  -- what each seat got is a beginning of the longer run
   still_told : (kind : StepKind) (after : Sight) → after.shown ≡ before.shown → (place : ℕ) (s : Sight) → get_elem? (set t.views id after) place ≡ some s → IsPrefix s.shown (h.log ++ kind ∷ [])
   still_told kind after same place s e = ⊎_elim
       (λ (x : (place ≡ id) × (after ≡ s)). subst (λ (y : Sight). IsPrefix y.shown (h.log ++ kind ∷ [])) x.1
@@ -154,11 +154,11 @@ module _ (o : Opening) (t : SeenTable) (h : Kept o t) (id : ℕ) (before : Sight
         shown = subst (λ (x : Table). Shown o.slots o.holds x) (sym is) (word_step o.slots o.holds (erased t) kind t' h.shown step).0;
       }
 
-  -- what the seat was told is a beginning of the run after such a step
+  -- what the seat got is a beginning of the run after such a step
   pub told_now : (kind : StepKind) → IsPrefix before.shown (now_seen kind).steps
   told_now kind = subst (λ (l : List StepKind). IsPrefix before.shown (l ++ kind ∷ [])) (sym so_far) (prefix_more before.shown h.log (kind ∷ []) (h.told id before at))
 
-  -- the seat took in what another has seen, or was told it, and nothing else changed
+  -- the seat took in what another has seen, or got it, and nothing else changed
   pub join_kept : (other : ℕ) (w both : Sight) → both.view ≡ before.view → IsBeginning o both.seen h.log → IsPrefix both.shown h.log → (id ≡ 0 → history_of both.seen ≡ notes_of h.log)
       → get_elem? (set t.views id both) other ≡ some w → Kept o (record { words = t.words; homes = t.homes; views = set (set t.views id both) other w })
   join_kept other w both same begins told first there =
@@ -187,7 +187,7 @@ module _ (o : Opening) (t : SeenTable) (h : Kept o t) (id : ℕ) (before : Sight
         shown = subst (λ (x : Table). Shown o.slots o.holds x) (sym is) h.shown;
       }
 
-  -- what another seat has seen, or was told, is of this run too
+  -- what another seat has seen, or got, is of this run too
   pub from_there : (other : ℕ) (w both : Sight) → (¬ (other ≡ id)) → get_elem? (set t.views id both) other ≡ some w → IsBeginning o w.seen h.log
   from_there other w both apart there = ⊎_elim
       (λ (x : (other ≡ id) × (both ≡ w)). absurd (apart x.0))

@@ -1,4 +1,4 @@
--- What a step of the words makes of the world: nothing, an event, or a change by the Master alone.
+-- What a step of the words makes of the world: nothing, an event, or a change only by the Master.
 use Rattle.std.proofs.Common.{◌≡◌, ◌⊎◌, inl, inr, ℕ, true, [], ◌∷◌, ◌++◌}
 use Rattle.std.specs.Prelude.{Some, None}
 use Rattle.kf_core.specs.declared.key.Key.{Key}
@@ -47,7 +47,7 @@ pub record IsEvent (kind : StepKind) (w w' : BareWorld) : Type 0 where
   pub step : BareStep w event w'
   pub only : (c : ℕ) → event ≡ Enter c → kind ≡ tries c
 
--- the next world is the same, or an event leads there, or the Master's step alone
+-- the next world is the same, or an event leads there, or only the Master's step does
 abbrev pub Led : StepKind → BareWorld → BareWorld → Type 0
 Led kind w w' = (w' ≡ w) ⊎ (IsEvent kind w w' ⊎ Alone kind w w')
 

@@ -24,7 +24,7 @@ use Rattle.kf_words.proofs.Seating.{master_seat, seats-push}
 use Rattle.kf_words.proofs.MasterSteps.{pin_counts, pin_back, freshen, birth, unlink, rise, mark_node}
 use Rattle.kf_words.proofs.MasterViews.{give, load_kept, look_kept}
 
--- what a step of the Master owes, where the word i becomes f of what it was
+-- what a step of the Master owes, if the word i becomes f of what it was
 abbrev pub Owes : ℕ → MasterView → ℕ → (ℕ → ℕ) → (ℕ → MasterView → MasterView) → Type 0
 Owes count m i f after =
     (words : List ℕ) (cs : List CallerView) → length m.slots ≡ count → Shows words m cs → get_or words i 0 < 18446744073709551616

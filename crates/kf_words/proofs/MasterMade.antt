@@ -190,7 +190,7 @@ module _ (o : Opening) (homes id : ℕ) (me : Sighted) (slot : ℕ) (is : plain 
       let r = stay_made (notes note) (λ e there. ((m, there), refl)) i t h far at small in
       (r.0, r.1, r.2, r.3, (r.4.0, r.4.1))
 
-  -- what was told is compared
+  -- what was passed on is compared
   pub compare_made : (i : ℕ) → Allows (Kept o) homes id me i same (MakesCompare (step 0 i 0 0 none) me)
   compare_made i = stay_made compares (λ e there. ((m, there), refl)) i
 

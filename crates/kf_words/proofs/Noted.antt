@@ -42,7 +42,7 @@ put [] k a b e = absurd (some-ne-none a (sym e))
 put (x ∷ xs) zero a b e = refl
 put (x ∷ xs) (suc k) a b e = put xs k a b e
 
--- a word that is put where it was
+-- a word that is put in its place
 pub same_word : (words : List ℕ) (i : ℕ) → set words i (slice_index words i) ≡ words
 same_word [] i = refl
 same_word (w ∷ ws) zero = refl

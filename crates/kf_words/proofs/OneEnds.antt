@@ -1,4 +1,4 @@
--- Steps of one list from one table lead to one table: each step is told by its kind and by what it finds.
+-- Steps of one list from one table lead to one table: a step is fixed by its kind and by what it finds.
 use Rattle.std.proofs.Common.{◌≡◌, ℕ, suc, ◌+◌, ◌<◌, [], ◌∷◌, ◌++◌, length, set, sym, ap, ◌∙◌, subst}
 use Rattle.std.specs.Prelude.{slice_get, slice_index}
 use Rattle.std.proofs.lemmas.Option.{same_Some}

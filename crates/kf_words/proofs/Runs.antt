@@ -38,7 +38,7 @@ word_run : (slots limit : ℕ) (kinds : List StepKind) (t u : Table) → Shown s
 word_run slots limit [] t u h r = subst (λ (x : Table). Shown slots limit x) (sym r) h
 word_run slots limit (kind ∷ kinds) t u h r = word_run slots limit kinds r.0 u (word_step slots limit t kind r.0 h r.1).0 r.2
 
--- what each event and each step of the Master alone keeps, a run keeps
+-- what each event and each step only of the Master keeps, a run keeps
 pub run_holds : (P : BareWorld → Type 0) → ((w : BareWorld) (e : Event) (w' : BareWorld) → BareStep w e w' → P w → P w') → ((kind : StepKind) (w w' : BareWorld) → Alone kind w w' → P w → P w')
     → (slots limit : ℕ) (kinds : List StepKind) (t u : Table) → Shown slots limit t → WordRun t kinds u → P (world t) → P (world u)
 run_holds P events alone slots limit [] t u h r p = subst (λ (x : Table). P (world x)) (sym r) p

@@ -1,6 +1,9 @@
--- A search for a free slot, slot by slot, and the blocks and groups that it passes over.
-use Rattle.std.proofs.Common.{◌≡◌, ◌≢◌, ◌⊎◌, inl, inr, ℕ, zero, suc, ◌+◌, ◌*◌, ◌/◌, ◌<◌, ◌≤◌, ◌&&◌, ◌==◌, Bool, true, false, not, List, [], ◌∷◌, ◌++◌, length, length-set, replicate, slice_set, get_or, refl, sym, ap, ◌∙◌, arith, subst}
+-- A search for a free slot, slot by slot, and the bits and marks of what it skips.
+use Rattle.std.proofs.Common.{◌≡◌, ◌≢◌, ◌⊎◌, inl, inr, ℕ, zero, suc, ◌+◌, ◌*◌, ◌/◌, ◌%◌, ◌<◌, ◌≤◌, ◌&&◌, ◌==◌, Bool, true, false, not, List, [], ◌∷◌, ◌++◌, length, length-set, replicate, slice_set, get_or, get_or-set_same, get_or-set_other, refl, sym, ap, ◌∙◌, arith, subst}
 use Rattle.std.specs.Prelude.{slice_get, Option, Some, None, is_some}
+use Rattle.std.specs.Int.{bit_at}
+use Rattle.std.proofs.lemmas.Nat.Bits.{bit_at-zero}
+use Rattle.std.proofs.lemmas.Bool.Decides.{eqb_tells}
 use Rattle.std.proofs.lemmas.Option.{slice_get_within, none-some, same_Some}
 use Rattle.kf_core.specs.Limits.{most_slots}
 use Rattle.kf_core.specs.declared.slot.SlotState.{SlotState}
@@ -10,7 +13,7 @@ use Rattle.kf_words.specs.declared.view.MasterView.{MasterView}
 use Rattle.kf_words.specs.Layout.{IsFree}
 use Rattle.kf_words.specs.Steps.{with_load}
 use Rattle.kf_words.specs.Nodes.{lacks_node, is_unlinked, FoundFirst, FoundNone}
-use Rattle.kf_words.specs.Searches.{HasPassed, SearchesOn, AreFull, AreMarked}
+use Rattle.kf_words.specs.Searches.{HasPassed, SearchesOn, AreLinked, AreFull, AreMarked}
 use Rattle.kf_words.proofs.Keys.{with_loads_more, with_loads_slots, with_loads_limit, with_loads_pinning, get_there}
 
 pub begins : (m : MasterView) → HasPassed m 0 m
@@ -110,24 +113,36 @@ unlinked_there slots slot e = lacks_there (slice_get slots slot) (and_right (not
 pub unlinked_within : (slots : List SlotState) (slot : ℕ) → is_unlinked slots slot ≡ true → slot < length slots
 unlinked_within slots slot e = let there = unlinked_there slots slot e in slice_get_within slots slot there.0 there.1
 
-below_or_at : (i slot : ℕ) → i < slot + 1 → (i < slot) ⊎ (i ≡ slot)
-below_or_at zero zero h = inr refl
-below_or_at zero (suc slot) h = inl (omega arith)
-below_or_at (suc i) zero h = absurd (omega arith)
-below_or_at (suc i) (suc slot) h = elim (below_or_at i slot (omega arith)) [ inl l ↦ inl (omega arith) | inr e ↦ inr (ap suc e) ]
+-- the slot at a bit that is set has a node
+pub in_bits : (full : List ℕ) (slots : List SlotState) (block bit i word : ℕ) → AreLinked full slots → get_or full block 0 ≡ word → bit_at word bit ≡ 1 → bit < 64 → i ≡ block * 64 + bit → is_unlinked slots i ≡ false
+in_bits full slots block bit i word all is set few e =
+    let at : i / 64 ≡ block = omega (arith, few, e) in
+    let place : i % 64 ≡ bit = omega (arith, few, e) in
+    all i (ap (λ (k : ℕ). bit_at (get_or full k 0) (i % 64)) at ∙ (ap (λ (k : ℕ). bit_at (get_or full block 0) k) place ∙ (ap (λ (x : ℕ). bit_at x bit) is ∙ set)))
 
--- one slot more that has a node
-pub last_or : (slots : List SlotState) (low slot i : ℕ) → ((j : ℕ) → low ≤ j → j < slot → is_unlinked slots j ≡ false) → is_unlinked slots slot ≡ false → low ≤ i → i < slot + 1 → is_unlinked slots i ≡ false
-last_or slots low slot i before here above below = elim (below_or_at i slot below) [ inl h ↦ before i above h | inr h ↦ ap (is_unlinked slots) h ∙ here ]
+-- a bit is set if the slot was seen to have a node
+pub linked_set : (full : List ℕ) (slots : List SlotState) (block place word word' : ℕ) → AreLinked full slots → block < length full → place < 64 → get_or full block 0 ≡ word → ((bit : ℕ) → bit ≢ place → bit_at word' bit ≡ bit_at word bit) → is_unlinked slots (block * 64 + place) ≡ false → AreLinked (slice_set full block word') slots
+linked_set full slots block place word word' old near few is kept here slot marked =
+    let now : ((slot / 64) ≡ block) → bit_at word' (slot % 64) ≡ 1 = λ e.
+    ap (λ (x : ℕ). bit_at x (slot % 64)) (sym (get_or-set_same full block word' 0 near)) ∙ (ap (λ (k : ℕ). bit_at (get_or (slice_set full block word') k 0) (slot % 64)) (sym e) ∙ marked) in
+    let was : ((slot / 64) ≡ block) → bit_at word (slot % 64) ≡ 1 → bit_at (get_or full (slot / 64) 0) (slot % 64) ≡ 1 = λ e set.
+    ap (λ (k : ℕ). bit_at (get_or full k 0) (slot % 64)) e ∙ (ap (λ (x : ℕ). bit_at x (slot % 64)) is ∙ set) in
+    elim (eqb_tells (slot / 64) block) [
+      | inl e ↦ elim (eqb_tells (slot % 64) place) [
+        | inl p ↦ (let same : slot ≡ block * 64 + place = omega (arith, e.1, p.1) in ap (is_unlinked slots) same ∙ here)
+        | inr n ↦ old slot (was e.1 (sym (kept (slot % 64) n.1) ∙ now e.1))
+      ]
+      | inr n ↦ old slot (ap (λ (x : ℕ). bit_at x (slot % 64)) (sym (get_or-set_other full block (slot / 64) word' 0 n.1)) ∙ marked)
+    ]
 
--- each slot that shares a mark has a node
-pub in_full : (many : ℕ) (full : List Bool) (slots : List SlotState) (place i : ℕ) → AreFull many full slots → place < length full → get_or full place false ≡ true → place ≡ i / many → is_unlinked slots i ≡ false
-in_full many full slots place i all near marked e = all i (subst (λ (k : ℕ). slice_get full k ≡ Some true) e (get_there full place false near ∙ ap Some marked))
+-- each slot of a marked group has a node
+pub in_full : (full_groups : List Bool) (slots : List SlotState) (group i : ℕ) → AreFull full_groups slots → group < length full_groups → get_or full_groups group false ≡ true → group ≡ i / 8192 → is_unlinked slots i ≡ false
+in_full full_groups slots group i all near marked e = all i (subst (λ (k : ℕ). slice_get full_groups k ≡ Some true) e (get_there full_groups group false near ∙ ap Some marked))
 
--- a mark is set where each slot that shares it was seen to have a node
-pub full_marked : (many : ℕ) (full : List Bool) (slots : List SlotState) (place : ℕ) (all : Bool) → AreFull many full slots → (all ≡ true → (i : ℕ) → place ≡ i / many → is_unlinked slots i ≡ false) → AreFull many (slice_set full place all) slots
-full_marked many full slots place all old seen slot marked =
-    elim (after_write full place (slot / many) all true marked) [ inl h ↦ seen h.1 slot h.0 | inr h ↦ old slot h.1 ]
+-- a group is marked if each of its slots was seen to have a node
+full_marked : (full_groups : List Bool) (slots : List SlotState) (group : ℕ) (all : Bool) → AreFull full_groups slots → (all ≡ true → (i : ℕ) → group ≡ i / 8192 → is_unlinked slots i ≡ false) → AreFull (slice_set full_groups group all) slots
+full_marked full_groups slots group all old seen slot marked =
+    elim (after_write full_groups group (slot / 8192) all true marked) [ inl h ↦ seen h.1 slot h.0 | inr h ↦ old slot h.1 ]
 
 and_keeps : (a b b' : Bool) → (b ≡ false → b' ≡ false) → (a && b) ≡ false → (a && b') ≡ false
 and_keeps true b b' keeps e = keeps e
@@ -143,76 +158,108 @@ has_node o state is lacks = not_false (is_some state.marks) (sym (ap lacks_node 
   not_false true e = refl
   not_false false e = absurd (let y : true ≡ false = e in cc)
 
--- a slot that gets a node, or keeps one, takes no mark away
-full_linked : (many : ℕ) (full : List Bool) (slots : List SlotState) (i : ℕ) (state : SlotState) → is_some state.marks ≡ true → AreFull many full slots → AreFull many full (slice_set slots i state)
-full_linked many full slots i state linked old slot marked =
+-- a slot that gets a node, or keeps one, takes no node away
+still_linked : (slots : List SlotState) (i : ℕ) (state : SlotState) (slot : ℕ) → is_some state.marks ≡ true → is_unlinked slots slot ≡ false → is_unlinked (slice_set slots i state) slot ≡ false
+still_linked slots i state slot linked =
     and_keeps (not (slot == 0)) (lacks_node (slice_get slots slot)) (lacks_node (slice_get (slice_set slots i state) slot))
     (λ lacks. lacks_not (slice_get (slice_set slots i state) slot) (λ y is. elim (after_set slots i slot state y is) [ inl h ↦ ap (λ (s : SlotState). is_some s.marks) (sym h) ∙ linked | inr h ↦ has_node (slice_get slots slot) y h lacks ]))
-    (old slot marked)
 
--- if a node leaves its slot, the mark is taken away
-full_left : (many : ℕ) (full : List Bool) (slots : List SlotState) (i : ℕ) (state : SlotState) → AreFull many full slots → AreFull many (slice_set full (i / many) false) (slice_set slots i state)
-full_left many full slots i state old slot marked =
-    let untouched : ((i / many) ≢ (slot / many)) → slice_get full (slot / many) ≡ Some true → is_unlinked (slice_set slots i state) slot ≡ false = λ differs was.
-    (let other : slot ≢ i = λ e. differs (ap (λ (n : ℕ). n / many) (sym e)) in
-    ap (λ (o : Option SlotState). not (slot == 0) && lacks_node o) (slice_get-set_other slots i slot state other) ∙ old slot was) in
-    elim (after_write full (i / many) (slot / many) false true marked) [ inl h ↦ absurd (let y : false ≡ true = h.1 in cc) | inr h ↦ untouched h.0 h.1 ]
+-- a change of one slot leaves the others
+other_linked : (slots : List SlotState) (i : ℕ) (state : SlotState) (slot : ℕ) → slot ≢ i → is_unlinked slots slot ≡ false → is_unlinked (slice_set slots i state) slot ≡ false
+other_linked slots i state slot other was = ap (λ (o : Option SlotState). not (slot == 0) && lacks_node o) (slice_get-set_other slots i slot state other) ∙ was
+
+-- if a node leaves its slot, the bit is cleared
+linked_left : (full : List ℕ) (slots : List SlotState) (i word word' : ℕ) (state : SlotState) → AreLinked full slots → i / 64 < length full → get_or full (i / 64) 0 ≡ word → bit_at word' (i % 64) ≡ 0 → ((bit : ℕ) → bit_at word' bit ≡ 1 → bit_at word bit ≡ 1) → AreLinked (slice_set full (i / 64) word') (slice_set slots i state)
+linked_left full slots i word word' state old near is cleared no_more slot marked =
+    let now : ((slot / 64) ≡ (i / 64)) → bit_at word' (slot % 64) ≡ 1 = λ e.
+    ap (λ (x : ℕ). bit_at x (slot % 64)) (sym (get_or-set_same full (i / 64) word' 0 near)) ∙ (ap (λ (k : ℕ). bit_at (get_or (slice_set full (i / 64) word') k 0) (slot % 64)) (sym e) ∙ marked) in
+    let was : bit_at (get_or full (slot / 64) 0) (slot % 64) ≡ 1 = elim (eqb_tells (slot / 64) (i / 64)) [
+      | inl e ↦ ap (λ (k : ℕ). bit_at (get_or full k 0) (slot % 64)) e.1 ∙ (ap (λ (x : ℕ). bit_at x (slot % 64)) is ∙ no_more (slot % 64) (now e.1))
+      | inr n ↦ ap (λ (x : ℕ). bit_at x (slot % 64)) (sym (get_or-set_other full (i / 64) (slot / 64) word' 0 n.1)) ∙ marked
+    ] in
+    elim (eqb_tells slot i) [
+      | inl e ↦ (let own : bit_at word' (i % 64) ≡ 1 = ap (λ (k : ℕ). bit_at word' (k % 64)) (sym e.1) ∙ now (ap (λ (k : ℕ). k / 64) e.1) in
+          absurd (omega (arith, own, cleared)))
+      | inr n ↦ other_linked slots i state slot n.1 (old slot was)
+    ]
+
+-- if a node leaves its slot, the mark of its group is taken away
+full_left : (full_groups : List Bool) (slots : List SlotState) (i : ℕ) (state : SlotState) → AreFull full_groups slots → AreFull (slice_set full_groups (i / 8192) false) (slice_set slots i state)
+full_left full_groups slots i state old slot marked =
+    elim (after_write full_groups (i / 8192) (slot / 8192) false true marked) [
+      | inl h ↦ absurd (let y : false ≡ true = h.1 in cc)
+      | inr h ↦ other_linked slots i state slot (λ e. h.0 (ap (λ (n : ℕ). n / 8192) (sym e))) (old slot h.1)
+    ]
+
+abbrev zeros : ℕ → List ℕ
+zeros n = replicate n 0
+
+zeros_read : (n i : ℕ) → get_or (zeros n) i 0 ≡ 0
+zeros_read zero i = refl
+zeros_read (suc n) zero = refl
+zeros_read (suc n) (suc i) = zeros_read n i
+
+-- no bit is set at first
+linked_none : (n : ℕ) (slots : List SlotState) → AreLinked (replicate n 0) slots
+linked_none n slots slot marked =
+    let none : bit_at (get_or (zeros n) (slot / 64) 0) (slot % 64) ≡ 0 = ap (λ (x : ℕ). bit_at x (slot % 64)) (zeros_read n (slot / 64)) ∙ bit_at-zero (slot % 64) in
+    absurd (omega (arith, none, marked))
 
 none_marked : (n i : ℕ) → slice_get (replicate n false) i ≡ Some true → ⊥
 none_marked zero i e = none-some true e
 none_marked (suc n) zero e = let y : false ≡ true = same_Some false true e in cc
 none_marked (suc n) (suc i) e = none_marked n i e
 
--- no mark is set at first
-full_none : (many n : ℕ) (slots : List SlotState) → AreFull many (replicate n false) slots
-full_none many n slots slot marked = absurd (none_marked n (slot / many) marked)
+-- no group is marked at first
+full_none : (n : ℕ) (slots : List SlotState) → AreFull (replicate n false) slots
+full_none n slots slot marked = absurd (none_marked n (slot / 8192) marked)
 
 length-replicate : {X : Type 0} (n : ℕ) (x : X) → length (replicate n x) ≡ n
 length-replicate zero x = refl
 length-replicate (suc n) x = ap suc (length-replicate n x)
 
-pub marked_first : (groups : ℕ) (slots : List SlotState) → length slots ≤ 8192 * groups → 128 * groups ≤ most_slots / 64 → AreMarked (replicate (groups * 128) false) (replicate groups false) slots
+pub marked_first : (groups : ℕ) (slots : List SlotState) → length slots ≤ 8192 * groups → 128 * groups ≤ most_slots / 64 → AreMarked (replicate (groups * 128) 0) (replicate groups false) slots
 marked_first groups slots covered few =
-    let blocks = length-replicate (groups * 128) false in
+    let blocks : length (zeros (groups * 128)) ≡ groups * 128 = length-replicate (groups * 128) 0 in
     let long = length-replicate groups false in
     record {
-      blocks = full_none 64 (groups * 128) slots;
-      groups = full_none 8192 groups slots;
+      blocks = linked_none (groups * 128) slots;
+      groups = full_none groups slots;
       covered = omega arith;
       grouped = omega arith;
       few = omega arith;
     }
 
-pub marked_linked : (full full_groups : List Bool) (slots : List SlotState) (i : ℕ) (state : SlotState) → is_some state.marks ≡ true → AreMarked full full_groups slots → AreMarked full full_groups (slice_set slots i state)
+pub marked_linked : (full : List ℕ) (full_groups : List Bool) (slots : List SlotState) (i : ℕ) (state : SlotState) → is_some state.marks ≡ true → AreMarked full full_groups slots → AreMarked full full_groups (slice_set slots i state)
 marked_linked full full_groups slots i state linked old =
     let long = length-set slots i state in
     let covered = old.covered in
     record {
-      blocks = full_linked 64 full slots i state linked old.blocks;
-      groups = full_linked 8192 full_groups slots i state linked old.groups;
+      blocks = λ slot marked. still_linked slots i state slot linked (old.blocks slot marked);
+      groups = λ slot marked. still_linked slots i state slot linked (old.groups slot marked);
       covered = omega arith;
       grouped = old.grouped;
       few = old.few;
     }
 
-pub marked_left : (full full_groups : List Bool) (slots : List SlotState) (i : ℕ) (state : SlotState) → AreMarked full full_groups slots → AreMarked (slice_set full (i / 64) false) (slice_set full_groups (i / 8192) false) (slice_set slots i state)
-marked_left full full_groups slots i state old =
+pub marked_left : (full : List ℕ) (full_groups : List Bool) (slots : List SlotState) (i word word' : ℕ) (state : SlotState) → AreMarked full full_groups slots → i / 64 < length full → get_or full (i / 64) 0 ≡ word → bit_at word' (i % 64) ≡ 0 → ((bit : ℕ) → bit_at word' bit ≡ 1 → bit_at word bit ≡ 1) → AreMarked (slice_set full (i / 64) word') (slice_set full_groups (i / 8192) false) (slice_set slots i state)
+marked_left full full_groups slots i word word' state old near is cleared no_more =
     let long = length-set slots i state in
-    let blocks = length-set full (i / 64) false in
+    let blocks = length-set full (i / 64) word' in
     let all = length-set full_groups (i / 8192) false in
     let covered = old.covered in
     let grouped = old.grouped in
     let few = old.few in
     record {
-      blocks = full_left 64 full slots i state old.blocks;
-      groups = full_left 8192 full_groups slots i state old.groups;
+      blocks = linked_left full slots i word word' state old.blocks near is cleared no_more;
+      groups = full_left full_groups slots i state old.groups;
       covered = omega arith;
       grouped = omega arith;
       few = omega arith;
     }
 
--- the marks of blocks after a search of one
-pub marked_on : (full full' full_groups : List Bool) (slots : List SlotState) → AreMarked full full_groups slots → AreFull 64 full' slots → length full' ≡ length full → AreMarked full' full_groups slots
+-- the bits of blocks after a search of one
+pub marked_on : (full full' : List ℕ) (full_groups : List Bool) (slots : List SlotState) → AreMarked full full_groups slots → AreLinked full' slots → length full' ≡ length full → AreMarked full' full_groups slots
 marked_on full full' full_groups slots old blocks as_many =
     let covered = old.covered in
     let grouped = old.grouped in
@@ -220,11 +267,11 @@ marked_on full full' full_groups slots old blocks as_many =
     record { blocks = blocks; groups = old.groups; covered = omega arith; grouped = omega arith; few = omega arith }
 
 -- a group is marked if each slot of its blocks was seen to have a node
-pub marked_group : (full full_groups : List Bool) (slots : List SlotState) (group : ℕ) (all : Bool) → AreMarked full full_groups slots → (all ≡ true → (i : ℕ) → group ≡ i / 8192 → is_unlinked slots i ≡ false) → AreMarked full (slice_set full_groups group all) slots
+pub marked_group : (full : List ℕ) (full_groups : List Bool) (slots : List SlotState) (group : ℕ) (all : Bool) → AreMarked full full_groups slots → (all ≡ true → (i : ℕ) → group ≡ i / 8192 → is_unlinked slots i ≡ false) → AreMarked full (slice_set full_groups group all) slots
 marked_group full full_groups slots group all old seen =
     let many = length-set full_groups group all in
     let grouped = old.grouped in
-    record { blocks = old.blocks; groups = full_marked 8192 full_groups slots group all old.groups seen; covered = old.covered; grouped = omega arith; few = old.few }
+    record { blocks = old.blocks; groups = full_marked full_groups slots group all old.groups seen; covered = old.covered; grouped = omega arith; few = old.few }
 
 pub or_before : (i slot : ℕ) → (i < slot) ⊎ (slot ≤ i)
 or_before zero zero = inr (omega arith)

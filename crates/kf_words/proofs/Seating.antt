@@ -17,7 +17,7 @@ map_at f [] i b e = absurd (some-ne-none b (sym e))
 map_at f (x ∷ xs) zero b e = (x, refl, some-injective (f x) b e)
 map_at f (x ∷ xs) (suc i) b e = map_at f xs i b e
 
--- where a caller sits
+-- the seat of a caller
 pub caller_seat : (m : MasterView) (cs : List CallerView) (id : ℕ) (c : CallerView) → get_elem? (seats m cs) id ≡ some (seat.Caller c) → (j : ℕ) × (id ≡ suc j) × (get_elem? cs j ≡ some c)
 caller_seat m cs zero c e = absurd (let is : seat.Master m ≡ seat.Caller c = some-injective _ _ e in cc)
 caller_seat m cs (suc j) c e =
@@ -26,7 +26,7 @@ caller_seat m cs (suc j) c e =
     let is : x.0 ≡ c = cc in
     (j, refl, subst (λ (y : CallerView). get_elem? cs j ≡ some y) is x.1)
 
--- where the Master sits
+-- the seat of the Master
 pub master_seat : (m n : MasterView) (cs : List CallerView) (id : ℕ) → get_elem? (seats m cs) id ≡ some (seat.Master n) → (id ≡ 0) × (m ≡ n)
 master_seat m n cs zero e = (refl, let is : seat.Master m ≡ seat.Master n = some-injective _ _ e in cc)
 master_seat m n cs (suc j) e =

@@ -1,4 +1,4 @@
--- A hold that a caller counted, of its own key or another, goes to a new seat, and the rule stays.
+-- A hold that a caller counted, of its key or another, goes to a new seat, and the rule stays.
 use Rattle.std.proofs.Common.{◌&&◌, ◌≡◌, ◌≢◌, ℕ, zero, suc, ◌+◌, Bool, true, false, eqb, List, [], ◌∷◌, ◌++◌, length, map, set, refl, sym, ap, ◌∙◌, subst, ⊎_elim, arith}
 use Rattle.std.specs.Prelude.{slice_get, Option, Some}
 use Rattle.std.proofs.lemmas.Option.{none-some}

@@ -11,7 +11,7 @@ use Rattle.kf_words.specs.Rule.{ShowsMarks, ShowsHolds, StillHolds, users, hider
 use Rattle.kf_words.specs.Steps.{Seated, caller_of, unmoved, CallerBecomes}
 use Rattle.kf_words.proofs.CallerAllowed.{no_step, allows}
 
--- a view put where it stands
+-- a view put in its place
 pub put_same : (cs : List CallerView) (j : ℕ) (c : CallerView) → get_elem? cs j ≡ some c → set cs j c ≡ cs
 put_same [] j c e = refl
 put_same (x ∷ xs) zero c e = ap (λ y. y ∷ xs) (sym (some-injective x c e))

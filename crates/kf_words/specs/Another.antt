@@ -52,7 +52,7 @@ abbrev pub HasNoSpare : Handle → Type 0
 HasNoSpare h = h.seen.opening.holds ≤ holds_in h.found + 1
 
 -- another hold is refused as one too many if the last step found a word without a spare place, and for
--- want of memory if it found one with such a place; as busy if others changed the word between each of
+-- lack of memory if it found one with such a place; as busy if others changed the word between each of
 -- 64 steps and the next; for no other cause
 abbrev pub AnotherRefused : Handle → Handle → Refusal → Type 0
 AnotherRefused before after TooManyHolds = HasNoSpare after

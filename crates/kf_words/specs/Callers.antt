@@ -209,7 +209,7 @@ pub record Owed : Type 0 where
   pub slot : ℕ
   pub found : ℕ
 
--- a wake is wanted
+-- the sleepers are to be woken
 abbrev pub is_wanted : Wake → Bool
 is_wanted Wanted = true
 is_wanted Unwanted = false

@@ -104,7 +104,7 @@ ShowIsShow =
     OfEachCaller (λ words m cs j c. IsInPhase Hidden c → (found : ℕ)
     → Moves m cs j (after_show found c) (Show j))
 
--- a hold that a caller counted, and that gets its seat, is a Pin of the caller's key
+-- a hold that a caller counted, and that gets its seat, is a Pin of that caller's key
 abbrev pub ShareIsPin : Type 0
 ShareIsPin = OfEachCaller
     (λ words m cs j c. c.phase ≢ Spent
@@ -185,7 +185,7 @@ abbrev pub Passes : MasterView → List CallerView → Key → Type 0
 Passes m cs key = BareRun (bare_world m cs) (Pin (length cs) key ∷ Release (length cs) ∷ [])
     (bare_world m (cs ++ spent_hold key ∷ []))
 
--- so is the seat that carries what a caller has seen, of the caller's key
+-- so is the seat that carries what a caller has seen, of that caller's key
 abbrev pub ReportPasses : Type 0
 ReportPasses = OfEachCaller (λ words m cs j c. c.phase ≢ Spent → Passes m cs c.key)
 

@@ -94,7 +94,7 @@ handed_on s =
 abbrev pub IsBeginning : Opening → Seen → List StepKind → Type 0
 IsBeginning o seen log = (seen.opening ≡ o) × IsPrefix seen.steps log
 
--- one run leads here from the opening, each seat has seen a beginning of it and was told one, the Master's
+-- one run leads here from the opening, each seat has seen a beginning of it and got one, the Master's
 -- seat has seen all notes, and the words show the views of all seats
 pub record Kept (o : Opening) (t : SeenTable) : Type 0 where
   pub begins : Shown o.slots o.holds (opened_as o)

@@ -1,4 +1,4 @@
--- The two words of a slot: where they stand, where their bits stand, and what is tested of a word that was
+-- The two words of a slot: their places, the places of their bits, and what is tested of a word that was
 -- found.
 use Rattle.std.specs.Prelude.{◌≡◌, ℕ, ◌+◌, ◌-◌, ◌*◌, ◌/◌, ◌%◌, ◌<◌, ◌||◌, ◌&&◌, not, Bool, true, false, ◌==◌, List, [], ◌∷◌, slice_index, slice_set}
 use Rattle.std.specs.List.{repeat}
@@ -8,19 +8,19 @@ use Rattle.std.specs.List.{repeat}
 abbrev pub line_words : ℕ
 line_words = 8
 
--- where the active word of a slot stands: first in its line
+-- the index of a slot's active word: first in its line
 abbrev pub active_index : ℕ → ℕ
 active_index slot = slot * line_words
 
--- where the hold word of a slot stands: right behind its active word
+-- the index of a slot's hold word: right behind its active word
 abbrev pub hold_index : ℕ → ℕ
 hold_index slot = slot * line_words + 1
 
--- where the count of a slot's sleepers stands: right behind its hold word. The rule says nothing about it
+-- the index of the count of a slot's sleepers: right behind its hold word. The rule says nothing about it
 abbrev pub sleepers_index : ℕ → ℕ
 sleepers_index slot = slot * line_words + 2
 
--- where a word of a slot's node stands, which is told when the node is born: one of the five last in its line
+-- the index of a word of a slot's node, which is put when the node is born: one of the five last in its line
 abbrev pub node_index : ℕ → ℕ → ℕ
 node_index place slot = slot * line_words + 3 + place
 

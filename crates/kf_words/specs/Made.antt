@@ -81,8 +81,8 @@ MakesSleeperLoad st me found me' = (st.word ≡ sleepers_index (caller_of me.0.v
     × (CallerBecomes unmoved st (plain me) found (plain me')
     × LoadedSleepers (caller_sight me.0) (caller_sight me'.0) found)
 
--- the wake that a step owes was spent: if it is wanted, this seat's next step loaded the count of sleepers.
--- If not, this seat made no step
+-- the wake that a step owes was spent: if the word says so, this seat's next step loaded the count of
+-- sleepers. If not, this seat made no step
 abbrev pub WakeSpent : Bool → CallerSight → CallerSight → Type 0
 WakeSpent true before after = (found : ℕ) × LoadedSleepers before after found
 WakeSpent false before after = after ≡ before
@@ -201,7 +201,7 @@ MakesMiss st me found me' =
 abbrev pub WasACount : CallerSight → CallerSight → Type 0
 WasACount = WasMade counts_hold
 
--- the caller's view after an exchange that expected this word: one hold more is counted where it was found
+-- the caller's view after an exchange that expected this word: one hold more is counted if it was found
 abbrev pub after_exchange : ℕ → ℕ → CallerView → CallerView
 after_exchange old found c = if found == old then after_count found c else after_miss found c
 
@@ -334,14 +334,14 @@ WasBorn slot node before after = (stored : MasterSight) × (noted : MasterSight)
     × WasMadeByMaster (stores_fresh slot) before stored × WasNoted slot node stored noted
     × WasMadeByMaster (births slot) noted after
 
--- the active word of a node was looked at, and where it was drained the node was taken out
+-- the active word of a node was looked at, and if it was drained the node was taken out
 abbrev pub WasUnlinked : ℕ → Bool → MasterSight → MasterSight → Type 0
 WasUnlinked slot true before after = (looked : MasterSight) × WasMadeByMaster (looks_over slot) before looked
     × WasMadeByMaster (unlinks slot) looked after
 WasUnlinked slot false before after = WasMadeByMaster (looks_over slot) before after
 
 -- a hold word was loaded, and one hold more counted there. The new seat has seen as much of the one run as
--- the Master then had, and the Master has seen no more since
+-- the Master then had, and the Master has seen nothing since
 pub record WasCounted (slot : ℕ) (before : MasterSight) (seat after : Seen) : Type 0 where
   pub loaded : MasterSight
   pub counted : MasterSight
@@ -370,7 +370,7 @@ abbrev pub MakesNote : Note → Step (Unit {0}) → Sighted → ℕ → Sighted 
 MakesNote note st me found me' =
     (plain me' ≡ plain me) × WasMadeByMaster (notes note) (master_sight me.0) (master_sight me'.0)
 
--- what a step of the Master says that compares what it was told with the run so far: that is a beginning. It
+-- what a step of the Master says that compares what it got with the run so far: that is a beginning. It
 -- changes no view
 abbrev pub MakesCompare : Step (Unit {0}) → Sighted → ℕ → Sighted → Type 0
 MakesCompare st me found me' = (plain me' ≡ plain me) × WasMadeByMaster compares (master_sight me.0)

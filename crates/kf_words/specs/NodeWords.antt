@@ -40,7 +40,7 @@ pub record NodeNotes : Type 0 where
   pub now : ℕ → ℕ → ℕ
   pub born : ℕ → ℕ → ℕ
 
--- at the opening all are 0, as of a directory
+-- at the opening all are 0, as for a directory
 abbrev pub no_notes : NodeNotes
 no_notes = record { now = λ s p. 0; born = λ s p. 0 }
 

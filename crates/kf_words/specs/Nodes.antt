@@ -144,7 +144,7 @@ abbrev pub Searched : MasterView → Option ℕ → MasterView → Type 0
 Searched m None m' = FoundNone m m'
 Searched m (Some slot) m' = FoundFirst m slot m'
 
--- one load told whether the slot has room
+-- one load found whether the slot has room
 abbrev pub RoomFound : MasterView → ℕ → Bool → MasterView → Type 0
 RoomFound m slot answer m' =
     (found : ℕ) × (m' ≡ with_load slot found m) × (IsTrue answer ↔ HasRoom m.limit found)
@@ -163,7 +163,7 @@ abbrev pub WasUnpinned : MasterView → ℕ → MasterView → Type 0
 WasUnpinned m slot m' =
     (found : ℕ) × HasRoom m.limit found × (m' ≡ without_pin slot (with_pin slot (with_load slot found m)))
 
--- a pin is refused as one hold too many if its load found the slot full, and for want of memory if the
+-- a pin is refused as one hold too many if its load found the slot full, and for lack of memory if the
 -- hold that was counted has been taken back; for no other cause
 abbrev pub PinRefused : MasterView → ℕ → Refusal → MasterView → Type 0
 PinRefused m slot TooManyHolds m' = WasFull m slot m'

@@ -34,7 +34,7 @@ MakesMissAt st me found me' = (st.word ≡ hold_index (slot_of st.word))
     × (st.first ≡ me.0.seen.opening.holds)
 
 -- the caller's view after an exchange on the hold word of a slot that expected this word: one hold more of
--- the slot's last key is counted where it was found
+-- the slot's last key is counted in the word that was found
 abbrev pub after_exchange_at : ℕ → ℕ → ℕ → CallerView → CallerView
 after_exchange_at slot old found c =
     if found == old then after_count_at slot found c else after_miss found c
@@ -144,7 +144,7 @@ IsWhyNot generation limit word NameTooLong = ⊥
 abbrev pub FoundWhyNot : Key → Handle → Refusal → Type 0
 FoundWhyNot key h why = IsWhyNot key.generation h.seen.opening.holds h.found why
 
--- a hold of a key is refused as the last step found its slot's hold word; for want of memory if that was
+-- a hold of a key is refused as the last step found its slot's hold word; for lack of memory if that was
 -- of the key and had a spare place; as busy where others changed the word between each of 64 steps and the
 -- next; for no other cause
 abbrev pub HoldOfRefused : Key → Handle → Handle → Refusal → Type 0

@@ -53,7 +53,7 @@ abbrev pub held_world : Table → BareWorld
 held_world t = record { slots = (world t).slots; callers = (world t).callers ++ newcomers t }
 
 -- two worlds are equal up to the numbers of their callers: their slots are the same, and as many callers of
--- one pass a test as of the other, whatever the test
+-- one pass a test as in the other, whatever the test
 abbrev pub IsRenumbered : BareWorld → BareWorld → Type 0
 IsRenumbered w w' =
     (w.slots ≡ w'.slots) × ((p : Caller → Bool) → count_by p w.callers ≡ count_by p w'.callers)

@@ -1,5 +1,6 @@
 -- A search for a free slot on its way, the marks of what it passes over, and what the Master keeps of them.
-use Rattle.std.specs.Prelude.{◌≡◌, ◌≤◌, ℕ, ◌*◌, ◌/◌, Bool, true, false, List, length, Option, None, Some, slice_get}
+use Rattle.std.specs.Prelude.{◌≡◌, ◌≤◌, ℕ, ◌*◌, ◌/◌, ◌%◌, Bool, true, false, List, length, Option, None, Some, slice_get, slice_index}
+use Rattle.std.specs.Int.{bit_at}
 use Rattle.kf_core.specs.Limits.{most_slots}
 use Rattle.kf_core.specs.declared.key.Node.{Node}
 use Rattle.kf_core.specs.declared.slot.SlotState.{SlotState}
@@ -17,22 +18,27 @@ abbrev pub SearchesOn : MasterView → ℕ → ℕ → Option ℕ → MasterView
 SearchesOn m from to None m' = (first : MasterView) → HasPassed first from m → HasPassed first to m'
 SearchesOn m from to (Some slot) m' = (first : MasterView) → HasPassed first from m → FoundFirst first slot m'
 
--- each of the slots that share a mark has a node linked, or is the root's, or is not there
-abbrev pub AreFull : ℕ → List Bool → List SlotState → Type 0
-AreFull many full slots =
-    (slot : ℕ) → slice_get full (slot / many) ≡ Some true → is_unlinked slots slot ≡ false
+-- each slot whose bit is set in the word of its block has a node linked, or is the root's, or is not there
+abbrev pub AreLinked : List ℕ → List SlotState → Type 0
+AreLinked full slots =
+    (slot : ℕ) → bit_at (slice_index full (slot / 64)) (slot % 64) ≡ 1 → is_unlinked slots slot ≡ false
 
--- no search need look at a slot of a block that is marked full, nor at a block of a group that is
-pub record AreMarked (full full_groups : List Bool) (slots : List SlotState) : Type 0 where
-  pub blocks : AreFull 64 full slots
-  pub groups : AreFull 8192 full_groups slots
+-- each slot of a group that is marked has a node linked, or is the root's, or is not there
+abbrev pub AreFull : List Bool → List SlotState → Type 0
+AreFull full_groups slots =
+    (slot : ℕ) → slice_get full_groups (slot / 8192) ≡ Some true → is_unlinked slots slot ≡ false
+
+-- no search need look at a slot whose bit is set, nor at a slot of a group that is marked
+pub record AreMarked (full : List ℕ) (full_groups : List Bool) (slots : List SlotState) : Type 0 where
+  pub blocks : AreLinked full slots
+  pub groups : AreFull full_groups slots
   pub covered : length slots ≤ 64 * length full
   pub grouped : length full ≡ 128 * length full_groups
   pub few : length full ≤ most_slots / 64
 
 -- what the Master keeps at run time is what its view says, between any two calls
 pub record IsMirrored (m : MasterView) (slots : List SlotState) (nodes : List Node) (holds : ℕ)
-    (full full_groups : List Bool) : Type 0 where
+    (full : List ℕ) (full_groups : List Bool) : Type 0 where
   pub root : 1 ≤ length slots
   pub few : length slots ≤ most_slots
   pub same_slots : m.slots ≡ slots

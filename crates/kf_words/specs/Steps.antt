@@ -1,4 +1,4 @@
--- What each step makes of the view of its own seat.
+-- What each step makes of the view of the seat that makes it.
 use Rattle.std.specs.Prelude.{◌≡◌, ℕ, ◌+◌, ◌/◌, Bool, true, false, [], ◌∷◌, ◌++◌, replicate, slice_set, slice_index_or, Option, None, Some, is_some, if◌then◌else◌}
 use Rattle.std.specs.Option.{option_map}
 use Rattle.atomic_table.specs.Table.{Me, Step}
@@ -166,11 +166,11 @@ abbrev pub state_at : MasterView → ℕ → SlotState
 state_at m slot = slice_index_or m.slots slot no_state
 
 -- the Master's view after a step that leaves its loads standing: the word that its last step stored, or
--- looked at, counts no more
+-- looked at, no longer counts
 abbrev pub on_active : MasterView → MasterView
 on_active m = record m { fresh = None; looked = None }
 
--- the Master's view after a step on a hold word that is no load: what it loaded before counts no more
+-- the Master's view after a step on a hold word that is no load: what it loaded before no longer counts
 abbrev pub on_hold : MasterView → MasterView
 on_hold m = record m { fresh = None; loads = []; looked = None }
 

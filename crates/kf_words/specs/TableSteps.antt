@@ -105,7 +105,7 @@ abbrev pub MayCount : Table → CallerView → Type 0
 MayCount t c = IsAtRest c × (c.pinning ≡ None)
     × HasSpare (master_in t.views).limit (slice_index t.words (hold_index c.key.slot))
 
--- the hold that the caller counted of its own key waits for its seat
+-- the hold of its key that the caller counted waits for its seat
 abbrev pub MayShare : CallerView → Type 0
 MayShare c = IsAtRest c × (c.pinning ≡ Some c.key)
 

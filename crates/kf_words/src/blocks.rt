@@ -1,32 +1,33 @@
-//! Blocks of slots, and groups of blocks: the search for a free slot passes over one in which every slot has
-//! a node.
-ghost use Rattle.std.specs.Prelude.{◌≡◌, ◌/◌};
+//! Blocks of slots, and groups of blocks: the search for a free slot skips those in which each slot has a
+//! node.
+ghost use Rattle.std.specs.Prelude.{ℕ, ◌≡◌, ◌≢◌, ◌<◌, ◌≤◌, ◌/◌};
+ghost use Rattle.std.specs.Int.{bit_at};
 ghost use Rattle.kf_words.specs.Nodes.{is_unlinked};
 
-use kf_core::SlotState;
+use kf_core::{SlotList, SlotState, lowest_bit, other_bits, with_low_bits};
 
-/// So many slots make a block.
+/// The number of slots in a block, and of bits in its word.
 pub(crate) const BLOCK: u32 = 64;
 
-/// So many blocks make a group. The most slots that there may be have as many groups as a group has blocks.
+/// The number of blocks in a group. A table with the most slots has this many groups.
 pub(crate) const GROUP: usize = 128;
 
-/// The block in which a slot stands.
+/// The block of a slot.
 pub(crate) fn block_of(slot: u32) -> usize
     ensures { result ≡ slot / 64 }
 {
     (slot / BLOCK) as usize
 }
 
-/// The group in whose blocks a slot stands.
+/// The group that a slot's block is in.
 pub(crate) fn group_of(slot: u32) -> usize
     ensures { result ≡ slot / 8192 }
 {
     block_of(slot) / GROUP
 }
 
-/// Whether no node is linked in a slot, which is not the root's.
-pub(crate) fn is_unlinked(slots: &[SlotState], slot: u32) -> bool
+/// Whether a slot of the table has no linked node. It is false for the root's slot.
+pub(crate) fn is_unlinked(slots: &SlotList<SlotState>, slot: u32) -> bool
     ensures { result ≡ is_unlinked slots.now slot }
 {
     slot != 0
@@ -34,4 +35,31 @@ pub(crate) fn is_unlinked(slots: &[SlotState], slot: u32) -> bool
             Some(state) => state.marks.is_none(),
             None => false,
         }
+}
+
+/// The word with the bit at this place set.
+///
+/// Condition: the place is at most 63.
+pub(crate) fn with_bit(word: u64, place: u32) -> u64
+    requires bound { place < 64 }
+    ensures set { bit_at result place ≡ 1 }
+    ensures kept { (bit : ℕ) → bit ≢ place → bit_at result bit ≡ bit_at word bit }
+{
+    word | (1 << place)
+}
+
+/// The first place from this one up at which the word's bit is not set. It is 64 if there is none.
+///
+/// Condition: the place to begin at is at most 64.
+pub(crate) fn first_unset(word: u64, from: u32) -> u32
+    requires bound { from ≤ 64 }
+    ensures bound { result ≤ 64 }
+    ensures from { from ≤ result }
+    ensures set { (bit : ℕ) → from ≤ bit → bit < result → bit_at word bit ≡ 1 }
+{
+    if from == BLOCK {
+        return BLOCK;
+    }
+    let left = other_bits(with_low_bits(word, from));
+    if left == 0 { BLOCK } else { lowest_bit(left) }
 }

@@ -53,7 +53,7 @@ impl Call {
 
     /// Gives the reference back (`kernfs_put_active`), in one word step.
     ///
-    /// Condition: Running or Restored.
+    /// Condition: the call is Running or Restored.
     pub fn leave(self) -> Hold
         requires { has_reference self.phase ≡ true }
         ensures same { IsSameSeat self result }
@@ -68,7 +68,7 @@ impl Call {
 
     /// Gives the reference up inside the callback (`kernfs_break_active_protection`), in one word step.
     ///
-    /// Condition: Running.
+    /// Condition: the call is Running.
     pub fn break_protection(&mut self)
         requires { self.old.phase ≡ phase_of.Running }
         ensures same { IsSameSeat self.old self.new }
@@ -82,7 +82,7 @@ impl Call {
     /// Takes a reference again, whatever became of the node (`kernfs_unbreak_active_protection`), in one word
     /// step.
     ///
-    /// Condition: Broken.
+    /// Condition: the call is Broken.
     pub fn restore(&mut self)
         requires { self.old.phase ≡ phase_of.Broken }
         ensures same { IsSameSeat self.old self.new }

@@ -56,7 +56,7 @@ pub fn wait_drained<R: Wait>(rt: &R, hold: Hold) -> Drained
 }
 
 /// Looks once, in one word step, whether the node is doomed and nobody has a reference to it, and does not
-/// wait. Err with the hold if somebody still uses the node, also while a refused try is not yet taken back.
+/// wait. It returns the hold if somebody still uses the node, also while a refused try is not yet taken back.
 /// What it says of a drained node is what `wait_drained` says, so a remover can look once at each of its
 /// nodes, and wait only for those that are in use.
 ///

@@ -54,8 +54,8 @@ impl Hiding {
         self.seat.key()
     }
 
-    /// Looks, in one word step, whether nobody uses the node: no reference, and no refused try not yet taken
-    /// back.
+    /// Looks, in one word step, whether nobody uses the node: there is no reference, and no refused try that
+    /// is not yet taken back. It returns itself if somebody does.
     pub fn look(self) -> Result<Hidden, Hiding>
         ensures same { MatchResult result (λ saw. IsSameSeat self saw) (λ back. IsSameSeat self back) }
         ensures hidden { IfOk result (λ saw. SawUnused self saw) }

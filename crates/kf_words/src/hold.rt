@@ -48,9 +48,8 @@ impl Hold {
         self.seat.node()
     }
 
-    /// Tries for an active reference (`kernfs_get_active`). A hold that comes back found that the node is not
-    /// live, or its key hidden. It takes one word step if it returns a call, and two if it gives the
-    /// hold back.
+    /// Tries for an active reference (`kernfs_get_active`). It returns the hold if the node was found not
+    /// live, or its key hidden. It takes one word step if it returns a call, and two if it returns the hold.
     pub fn enter(self) -> Result<Call, Hold>
         ensures same { MatchResult result (λ call. IsSameSeat self call) (λ hold. IsSameSeat self hold) }
         ensures call { IfOk result (λ call. Entered self call) }
@@ -71,8 +70,8 @@ impl Hold {
         }
     }
 
-    /// Looks, in one word step, whether the node is doomed and nobody uses it. Gives the hold back if it
-    /// is not so, also while a refused try is not yet taken back (one look of `kernfs_drain`).
+    /// Looks, in one word step, whether the node is doomed and nobody uses it (one look of `kernfs_drain`).
+    /// It returns the hold if not, also while a refused try is not yet taken back.
     pub fn look(self) -> Result<Drained, Hold>
         ensures same { MatchResult result (λ saw. IsSameSeat self saw) (λ hold. IsSameSeat self hold) }
         ensures drained { IfOk result (λ saw. SawDrained self saw) }
@@ -90,8 +89,8 @@ impl Hold {
         }
     }
 
-    /// Hides the key, in one word step: until it is shown again, each try is refused. Err if a caller
-    /// hides it already.
+    /// Hides the key, in one word step: until it is shown again, each try is refused. It returns the hold if
+    /// a caller hides the key already.
     ///
     /// A tree calls this while it is locked, once nothing in it is against the hiding. Without that lock the
     /// key is hidden from every caller all the same, and `wait_hidden` waits for those that are inside. But

@@ -17,7 +17,7 @@ use std::marker::Model;
 /// The most owners that a maker keeps.
 const MOST_SPARE: usize = 16;
 
-/// Makes holds by a hold of its own. Each hold owns the table, and all threads share the count of its
+/// Makes holds by the one that it keeps. Each hold owns the table, and all threads share the count of its
 /// owners. A maker keeps up to 16 owners of the holds that are released to it, and a hold that it makes of
 /// one of them writes nothing to that count. It must be spent, by `end`.
 ///
@@ -87,8 +87,11 @@ impl Holds {
         }
     }
 
-    /// A hold of the node of a key, as `Hold::pin` makes it. It takes an owner that is to spare, and is then
-    /// never refused as out of memory; after a refusal there are as many to spare as before.
+    /// A hold of the node of a key, as `Hold::pin` makes it. If there is an owner to spare, the hold takes
+    /// that owner. After a refusal there are as many to spare as before.
+    ///
+    /// Refusals, in order: NoEntry, TooManyHolds and Busy as in `Hold::pin`; NoMemory as there, but only if
+    /// there is no owner to spare.
     pub fn pin(&mut self, key: Key) -> Result<Hold, Refusal>
         ensures same { IsSameSeat self.old.by self.new.by }
         ensures stays { StaysAs self.old.by self.new.by }

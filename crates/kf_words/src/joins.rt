@@ -16,7 +16,7 @@ impl Knowing for Brand {
     ghost sight = { no_sight };
 }
 
-/// A seat is told what another has seen, which stays as it was.
+/// A seat gets what another has seen, and the other stays as it was.
 pub(crate) struct Hears<E: Knowing> {
     of: PhantomData<E>,
 }
@@ -29,7 +29,7 @@ impl<E: Knowing> Join<Sight> for Hears<E> {
     ghost spent = { E.sight };
 }
 
-/// A seat has from now on seen just what another has, which stays as it was.
+/// A seat has from now on seen just what another has, and the other stays as it was.
 pub(crate) struct TakesOver<E: Knowing> {
     of: PhantomData<E>,
 }

@@ -35,13 +35,13 @@ pub fn words_tell()
 ///
 /// A caller's try is an Enter, which runs exactly if the node is live, and the step that takes a refused
 /// one back an Undo. A look that finds the word drained is a Look, and a load that finds no node linked a
-/// Part. The bit of a hidden key set where it was clear is a Hide, a load by a hider that finds nobody a
+/// Part. The bit of a hidden key set after it was clear is a Hide, a load by a hider that finds nobody a
 /// LookHidden, and the bit taken off a Show. Any other such step leaves the world as it is. The ends of
 /// calls, protection broken and restored, and holds given back are Leave, Break, Restore and Release. Of the
 /// Master, a birth is a Born of the slot's next key, activation and mark are a Rise and a Mark. A node taken
 /// out is an Unlink of any drained caller of it. A hold that gets its seat is a Pin of a new caller, on a
 /// linked key or one that somebody holds. A caller that counts one hold more leaves this world as it is, and
-/// the seat that gets a hold of the caller's own key is a Pin of that key, linked or not. A hold that a
+/// the seat that gets a hold of that caller's key is a Pin of that key, linked or not. A hold that a
 /// caller counts in the hold word of any slot (`Hold::pin`) is a Pin at the step that counts it, since the
 /// word shows a linked node: `words_run` follows a world in which this hold is a caller at once. The
 /// Master's other steps leave the world as it is. A seat that carries to the Master what a caller has seen,
@@ -73,8 +73,8 @@ pub fn words_step()
 {}
 
 /// What holds over every run of steps of any number of seats, in any order, from any table that meets the
-/// rule. It does nothing: a step is one of the kinds that `words_step` names, made if the view of its own
-/// seat allows it.
+/// rule. It does nothing: a step is one of the kinds that `words_step` names, made if the view of the
+/// seat that makes it allows it.
 ///
 /// The table opens with the rule, as the opening world. Each step keeps the rule, so the world stays safe.
 /// Each attended run is a run of events, step by step, up to the numbers of the callers. A run is attended if

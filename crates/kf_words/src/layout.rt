@@ -1,12 +1,12 @@
-//! Where the words of a slot stand, the numbers of which active words and hold words are made, and the tests
-//! on a word that was found.
+//! The places of a slot's words, the numbers that make up active words and hold words, and the tests on a
+//! word that was found.
 ghost use Rattle.std.specs.Prelude.{◌≡◌, ◌<◌, ◌+◌, ◌-◌, ◌↔◌, IsTrue};
 ghost use Rattle.kf_words.specs.Layout.{active_index, hold_index, sleepers_index, node_index, keeps_out, has_bias, has_doom, has_hide, is_drained, is_unused, last_user_wakes, wants_wake, has_linked, bit, bias, doom, IsFree, HasRoom, HasSpare};
 
 use kf_core::NodeFlags;
 
 /// The words of a cache line. Each slot has a line to itself, so that calls of one node never wait for those
-/// of another: its active word, behind that its hold word, then the count of those who sleep at the active
+/// of another: its active word, behind that its hold word, then the count of the sleepers at the active
 /// word, three words of its node and two free.
 pub(crate) const LINE_WORDS: usize = 8;
 
@@ -31,28 +31,28 @@ pub(crate) const HOLDS: u64 = 0x7fff_ffff;
 /// In a hold word: one generation.
 pub(crate) const GENERATION: u64 = 0x1_0000_0000;
 
-/// Where the active word of a slot stands.
+/// The index of a slot's active word in the table.
 pub(crate) fn active_index(slot: u32) -> usize
     ensures { result ≡ active_index slot }
 {
     slot as usize * LINE_WORDS
 }
 
-/// Where the hold word of a slot stands.
+/// The index of a slot's hold word in the table.
 pub(crate) fn hold_index(slot: u32) -> usize
     ensures { result ≡ hold_index slot }
 {
     slot as usize * LINE_WORDS + 1
 }
 
-/// Where the count of a slot's sleepers stands.
+/// The index of the count of a slot's sleepers in the table.
 pub(crate) fn sleepers_index(slot: u32) -> usize
     ensures { result ≡ sleepers_index slot }
 {
     slot as usize * LINE_WORDS + 2
 }
 
-/// Where a word of a slot's node stands.
+/// The index of one of the words of a slot's node in the table.
 pub(crate) fn node_index(place: usize, slot: u32) -> usize
     requires { place < 5 }
     ensures { result ≡ node_index place slot }

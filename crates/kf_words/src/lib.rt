@@ -10,8 +10,8 @@
 //!   thread may do next is what it has in hand.
 //! - `Hiding` and `Hidden` do the same for a file that is shown again.
 //!
-//! Who leaves shows that the call has its reference, who unlinks that the node drained is of this table.
-//! `words_kept` and `words_run` are the laws of every program over these words.
+//! A caller that leaves shows that the call has its reference, and one that unlinks shows that the drained
+//! node is of this table. `words_kept` and `words_run` are the laws of every program over these words.
 #![tactic(auto)]
 
 mod blocks;

@@ -1,5 +1,5 @@
-//! The Master: the one seat that makes and unmakes nodes. Whoever owns it, as the tree lock does, gives the
-//! tree's commands.
+//! The Master: the one seat that makes and unmakes nodes. Whoever owns it, as the lock of a tree does, gives
+//! the tree's commands.
 ghost use Rattle.std.specs.Prelude.{◌≡◌, ◌<◌, ◌≤◌, [], ◌∷◌, ◌++◌, true, false, length, is_some, IfOk, IfErr, OnOk};
 ghost use Rattle.kf_core.specs.declared.refusal.Refusal.TheVariants as refusal_of;
 ghost use Rattle.kf_words.specs.Nodes.{KeepsNodes, KeepsRooms, IsNewHold, IsLastKey, WasPinned, PinRefused, HeldPinRefused, RoomFound, FoundRoom, FoundFull, last_of, marks_of, sight_in};
@@ -13,20 +13,23 @@ use crate::layout::has_room;
 use crate::master_seat::MasterSeat;
 use crate::note::Said;
 use crate::seat::CallerSeat;
-use kf_core::{Key, Node, NodeFlags, Refusal, SlotState};
+use kf_core::{Key, Node, NodeFlags, Refusal, SlotList, SlotState};
 use std::marker::Model;
 use std::sync::Arc;
 
-/// The Master of a table of words, with the state of each slot and the node that was born there last.
+/// The Master of a table of words, with the state of each slot and the node that was born there last. It
+/// keeps both beside the words, so that it can read them without a word step. They take memory only up to the
+/// highest slot that had a node.
 #[derive(Drop)]
 pub struct Master {
     pub(crate) steps: MasterSeat,
-    pub(crate) slots: Vec<SlotState>,
-    pub(crate) nodes: Vec<Node>,
+    pub(crate) slots: SlotList<SlotState>,
+    pub(crate) nodes: SlotList<Node>,
     pub(crate) holds: u32,
-    /// By block of 64 slots, whether each of its slots, except the root's, is known to have a node linked.
-    pub(crate) full: Vec<bool>,
-    /// The same by group of 128 blocks.
+    /// For each block a word with a bit for each of its slots. If the bit is set, the slot is known to have a
+    /// linked node, or is the root's.
+    pub(crate) full: Vec<u64>,
+    /// For each group of blocks, whether all bits of its blocks are known to be set.
     pub(crate) full_groups: Vec<bool>,
 }
 
@@ -39,16 +42,16 @@ impl Model for Master {
     ghost view = { λ m. record {
       table = m.steps.token.table_id;
       view = master_view m.steps;
-      nodes = m.nodes.items;
+      nodes = m.nodes;
       seen = m.steps.token.me.0.seen;
     } };
 
-    ghost invariant = { λ m. IsMirrored (master_view m.steps) m.slots.items m.nodes.items m.holds
+    ghost invariant = { λ m. IsMirrored (master_view m.steps) m.slots m.nodes m.holds
         m.full.items m.full_groups.items };
 }
 
 impl Master {
-    /// The marks of a node, if it is linked. It makes no word step.
+    /// The marks of a node, or None if it is not linked. It makes no word step.
     pub fn marks(&self, key: Key) -> Option<NodeFlags>
         ensures { result ≡ marks_of self.now.view key }
     {
@@ -58,8 +61,9 @@ impl Master {
         }
     }
 
-    /// The generation that a slot was given last: that of the node there, or of the last that is gone, or 0.
-    /// None if the table has no such slot. It makes no word step.
+    /// The generation that a slot was given last: that of the node there, or of the last node that is gone.
+    /// If the slot has had no node, it is the one that the table was made with. Returns None if the table has
+    /// no such slot. It makes no word step.
     pub fn last(&self, slot: u32) -> Option<u32>
         ensures { result ≡ last_of self.now.view slot }
     {
@@ -69,8 +73,8 @@ impl Master {
         }
     }
 
-    /// Whether the slot of a key may have one hold more, in one word step. False, with no step, if the
-    /// table has no such slot.
+    /// Whether the slot of a key may have one hold more, in one word step. Returns false, with no step, if
+    /// the table has no such slot.
     pub fn room(&mut self, key: Key) -> bool
         ensures kept { KeepsNodes self.old self.new }
         ensures found { key.slot < length self.old.view.slots →
@@ -93,9 +97,9 @@ impl Master {
     ///
     /// Condition: the node is linked.
     ///
-    /// Refusals, in order: TooManyHolds if the slot has as many holds as there may be; NoMemory if the
-    /// table can have no owner more (its `Arc` is at its last count). After each the slot has the holds that
-    /// it had.
+    /// Refusals, in order: TooManyHolds if the slot has as many holds as there may be; NoMemory if the table
+    /// can have no further owner (its `Arc` is at its last count). After a refusal the slot has the holds
+    /// that it had.
     pub fn pin(&mut self, key: Key) -> Result<Hold, Refusal>
         requires { is_some (marks_of self.old.view key) ≡ true }
         ensures kept { KeepsNodes self.old self.new }
@@ -115,7 +119,7 @@ impl Master {
     /// Condition: the call is of this table.
     ///
     /// Refusals, in order: NoEntry if the slot has had a later node, before any word step; TooManyHolds
-    /// and NoMemory as of `pin`.
+    /// and NoMemory as in `pin`.
     pub fn pin_held(&mut self, call: &Call) -> Result<Hold, Refusal>
         requires { call.now.table ≡ self.old.table }
         ensures kept { KeepsNodes self.old self.new }
@@ -136,6 +140,10 @@ impl Master {
     }
 
     /// A new hold of the last key of a slot.
+    ///
+    /// Condition: it is that key.
+    ///
+    /// Refusals, in order: TooManyHolds and NoMemory as in `pin`.
     fn pin_last(&mut self, key: Key) -> Result<Hold, Refusal>
         requires { IsLastKey self.old.view key }
         ensures kept { KeepsNodes self.old self.new }
@@ -158,14 +166,14 @@ impl Master {
             return Err(Refusal::NoMemory);
         };
         let token = self.steps.give_hold(key.slot);
-        let node = self.nodes[key.slot as usize];
+        let node = self.nodes.at(key.slot as usize);
         Ok(Hold {
             seat: CallerSeat::new(table, key, node, most, token),
         })
     }
 
-    /// Adds a note to the history: what was done, while whoever has the Master did it. The call picks it by
-    /// what it is told, of which nothing is kept. One word step, which changes nothing.
+    /// Adds a note to the history: what was done, while whoever has the Master did it. The call picks the
+    /// note by `told`, of which nothing is kept. It is one word step, which changes nothing.
     pub fn note<E: Said, T>(&mut self, told: &T)
         ensures table { self.new.table ≡ self.old.table }
         ensures nodes { self.new.nodes ≡ self.old.nodes }
@@ -173,7 +181,7 @@ impl Master {
         ensures made { WasMadeByMaster (notes E.note) (sight_in self.old) (sight_in self.new) }
         ensures history { history_of self.new.seen ≡ history_of self.old.seen ++ E.note ∷ [] }
     {
-        let _ = told; // the pick alone reads it
+        let _ = told; // only the pick reads it
         self.steps.note::<E>();
     }
 }

@@ -27,7 +27,7 @@ use atomic_table::Seat;
 use kf_core::{Node, NodeFlags};
 
 impl MasterSeat {
-    /// Where the active word of a slot stands.
+    /// The index of a slot's active word in the table.
     fn active_index(&self, slot: u32) -> usize
         requires { slot < length (master_view self.now).slots }
         ensures here { result ≡ active_index slot }
@@ -36,7 +36,7 @@ impl MasterSeat {
         active_index(slot)
     }
 
-    /// Where the hold word of a slot stands.
+    /// The index of a slot's hold word in the table.
     fn hold_index(&self, slot: u32) -> usize
         requires { slot < length (master_view self.now).slots }
         ensures here { result ≡ hold_index slot }
@@ -106,7 +106,7 @@ impl MasterSeat {
         ensures hold { plain result.me
             ≡ (seat_of.Caller (new_hold (last_key slot (state_at (master_view self.old) slot))), []) }
     {
-        let _ = slot; // the contract alone names it
+        let _ = slot; // only the contract names it
         let token = &mut self.token;
         self.table.shared.split_seat::<SplitsHold>(&mut token.seat)
     }
@@ -195,8 +195,8 @@ impl MasterSeat {
             .fetch_sub::<TakesBias>(&mut token.seat, word, BIAS);
     }
 
-    /// Marks the node of a slot, which has these marks, as doomed. It wakes nobody: one who waits for a node
-    /// that is not doomed yet sleeps for a millisecond at most.
+    /// Marks the node of a slot, which has these marks, as doomed. It wakes nobody: a thread that waits for
+    /// a node that is not doomed yet sleeps for a millisecond at most.
     pub(crate) fn mark_node(&mut self, slot: u32, marks: NodeFlags)
         requires marks { HasMarks (master_view self.old) slot marks }
         requires undoomed { marks.doomed ≡ false }
@@ -259,7 +259,7 @@ impl MasterSeat {
         self.table.shared.load::<Notes<E>>(&mut token.seat, 0);
     }
 
-    /// It is told what the other seat has seen, which ends.
+    /// It gets what the other seat has seen, and that seat ends.
     pub(crate) fn hear<E: Knowing>(&mut self, other: Seat<(), Sight>)
         requires slot { 0 < length (master_view self.old).slots }
         requires table { other.table_id ≡ self.old.token.table_id }
@@ -276,7 +276,7 @@ impl MasterSeat {
             .join_seat::<Hears<E>>(&mut token.seat, other);
     }
 
-    /// Compares what it was told with the run so far, in one word step that changes nothing.
+    /// Compares what was passed to it with the run so far, in one word step that changes nothing.
     pub(crate) fn compare(&mut self)
         requires { 0 < length (master_view self.old).slots }
         ensures table { self.new.token.table_id ≡ self.old.token.table_id }

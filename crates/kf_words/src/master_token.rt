@@ -1,12 +1,12 @@
-//! The Master's token. Whoever has a `&` to it can do nothing with it, so many threads may have one at once:
-//! they may look at what lies beside a Master, as those do who only read the tree.
+//! The Master's token. Whoever has a `&` to it can do nothing with it, and thus many threads may have one at
+//! once: they may look at what lies beside a Master, as those do who only read the tree.
 ghost use Rattle.std.specs.Prelude.{◌≡◌};
 
 use crate::sight::Sight;
 use atomic_table::Seat;
 use std::marker::Model;
 
-/// The Master's seat at the table, which is reached through a `&mut` alone. To a contract it is that seat.
+/// The Master's seat at the table, which is reached only through a `&mut`. To a contract it is that seat.
 #[derive(Drop)]
 pub(crate) struct MasterToken {
     pub(crate) seat: Seat<(), Sight>,

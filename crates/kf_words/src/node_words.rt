@@ -1,5 +1,5 @@
-//! A node as three words of its slot, which are put before it is linked: so who counts a hold of it without
-//! the tree can read what it is.
+//! A node as three words of its slot, which are put before it is linked. So a caller that counts a hold of
+//! it without the tree can read what it is.
 ghost use Rattle.std.specs.Prelude.{◌≡◌};
 ghost use Rattle.kf_words.specs.NodeWords.{kind_word, first_word, second_word, node_in};
 

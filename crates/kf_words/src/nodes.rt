@@ -9,28 +9,28 @@ ghost use Rattle.kf_words.specs.Made.{WasMadeByMaster, WasBorn, WasUnlinked};
 ghost use Rattle.kf_words.specs.Notes.{history_of};
 ghost use Rattle.kf_words.specs.Nodes.{KeepsNodes, MayBear, Searched, UnlinkAnswer, marks_of, sight_in, slots_with};
 
-use crate::blocks::{block_of, group_of};
+use crate::blocks::{BLOCK, block_of, group_of};
 use crate::layout::is_drained;
 use crate::master::Master;
 use crate::receipt::Drained;
-use kf_core::{Key, Node, NodeFlags, SlotState};
+use kf_core::{Key, Node, NodeFlags, SlotState, without_bit};
 
 impl Master {
-    /// The lowest slot from 1 up that is found free, with its next generation. None if no slot was found
-    /// free. It takes one word step for each slot up to that one in which no node is linked.
+    /// The lowest slot from 1 up that is found free, with its next generation. Returns None if no slot was
+    /// found free. It takes one word step for each slot up to that one in which no node is linked.
     pub fn free_key(&mut self) -> Option<Key>
         ensures kept { KeepsNodes self.old self.new }
         ensures searched { Searched self.old.view (option_map (λ key. key.slot) result) self.new.view }
         ensures may_bear { IfSome result (λ key. MayBear self.new.view key) }
     {
         let slot = self.steps.find_free(
-            self.slots.as_slice(),
+            &self.slots,
             self.full.as_mut_slice(),
             self.full_groups.as_mut_slice(),
         )?;
         Some(Key {
             slot,
-            generation: self.slots[slot as usize].generation + 1,
+            generation: self.slots.at(slot as usize).generation + 1,
         })
     }
 
@@ -49,14 +49,15 @@ impl Master {
         self.steps.store_fresh(key.slot);
         self.steps.note_node(key.slot, node);
         self.steps.birth(key.slot);
-        self.nodes[key.slot as usize] = node;
-        self.slots[key.slot as usize] = SlotState {
+        self.nodes.set(key.slot as usize, node);
+        let state = SlotState {
             generation: key.generation,
             marks: Some(NodeFlags {
                 activated: false,
                 doomed: false,
             }),
         };
+        self.slots.set(key.slot as usize, state);
     }
 
     /// Lets callers have references to a node that was not yet activated (`kernfs_activate`).
@@ -72,13 +73,14 @@ impl Master {
         ensures slots { self.new.view.slots ≡ slots_with self.old.view.slots key (Some live_marks) }
     {
         self.steps.take_bias(key.slot);
-        self.slots[key.slot as usize] = SlotState {
+        let state = SlotState {
             generation: key.generation,
             marks: Some(NodeFlags {
                 activated: true,
                 doomed: false,
             }),
         };
+        self.slots.set(key.slot as usize, state);
     }
 
     /// Marks a linked node as doomed: from now on each try for a reference fails (the first half of
@@ -97,23 +99,24 @@ impl Master {
     {
         if let Some(marks) = self.marks(key) {
             self.steps.mark_node(key.slot, marks);
-            self.slots[key.slot as usize] = SlotState {
+            let state = SlotState {
                 generation: key.generation,
                 marks: Some(NodeFlags {
                     activated: marks.activated,
                     doomed: true,
                 }),
             };
+            self.slots.set(key.slot as usize, state);
         }
     }
 
-    /// Takes a node out of the tree, if its active word is found drained (`kernfs_unlink_sibling`). False
-    /// where it was not: a refused try may be in flight there, or a caller that broke its protection has a
-    /// reference again.
+    /// Takes a node out of the tree, if its active word is found drained (`kernfs_unlink_sibling`). It
+    /// returns false if the word is not: a refused try may be in flight there, or a caller that broke its
+    /// protection has a reference again.
     ///
-    /// The receipt shows that the word was drained once, not that it is: so it is loaded again here. From
-    /// this load to the next step nobody can run on the node: its bias goes away by an activation alone, and
-    /// a doomed node is not activated.
+    /// The receipt shows that the word was drained once, not that it still is. So it is loaded again here.
+    /// From this load to the next step nobody can run on the node: only an activation takes its bias away,
+    /// and a doomed node is not activated.
     ///
     /// Condition: the receipt is of this table, and its node is linked.
     pub fn unlink(&mut self, drained: &Drained) -> bool
@@ -132,11 +135,13 @@ impl Master {
             return false;
         }
         self.steps.unlink(key.slot);
-        self.slots[key.slot as usize] = SlotState {
+        let state = SlotState {
             generation: key.generation,
             marks: None,
         };
-        self.full[block_of(key.slot)] = false;
+        self.slots.set(key.slot as usize, state);
+        let block = block_of(key.slot);
+        self.full[block] = without_bit(self.full[block], key.slot % BLOCK);
         self.full_groups[group_of(key.slot)] = false;
         true
     }

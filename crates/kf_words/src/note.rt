@@ -11,9 +11,9 @@ pub enum Note {
     Claimed(Key),
     /// The stored commands gave way to others that make the same tree.
     Compacted,
-    /// A tree of this many slots was made, of this root alone.
+    /// A tree of this many slots was made, with only this root.
     Began(u32, Key),
-    /// The lock was taken, or is about to be let go: what stands between two of these was done while it was
+    /// The lock was taken, or is about to be released: what stands between two of these was done while it was
     /// held once.
     Border,
 }

@@ -348,7 +348,7 @@ impl Split<Sight> for SplitsHold {
     ghost right = { given };
 }
 
-/// The Master compares what it was told with the run so far, and changes nothing.
+/// The Master compares what was passed to it with the run so far, and changes nothing.
 pub(crate) struct Compares;
 
 impl Play<(), Sight> for Compares {

@@ -1,5 +1,6 @@
-//! The steps of a hold and a call that wake nobody, for a caller that has sleepers of its own or none: what
-//! is owed to sleepers is in their results. `enter`, `leave` and `break_protection` are these and the wake.
+//! The steps of a hold and a call that wake nobody, for a caller that wakes its sleepers itself or has none:
+//! what is owed to sleepers is in their results. `enter`, `leave` and `break_protection` are these and the
+//! wake.
 ghost use Rattle.std.specs.Prelude.{◌≡◌, true, IfOk, IfErr, MatchResult};
 ghost use Rattle.kf_core.specs.Phases.{has_reference};
 ghost use Rattle.kf_core.specs.declared.caller.Phase.TheVariants as phase_of;

@@ -52,7 +52,8 @@ impl Drained {
         self.seat.key()
     }
 
-    /// Looks, in one word step, whether the node has left the tree. Err while it is linked.
+    /// Looks, in one word step, whether the node has left the tree. It returns itself while the node is
+    /// linked.
     pub fn parted(self) -> Result<Parted, Drained>
         ensures same { MatchResult result (λ gone. IsSameSeat self gone) (λ back. IsSameSeat self back) }
         ensures gone { IfOk result (λ gone. SawParted self gone) }

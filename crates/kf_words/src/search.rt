@@ -3,21 +3,28 @@ ghost use Rattle.std.specs.Prelude.{◌≡◌, ◌<◌, ◌≤◌, ◌+◌, ◌*
 ghost use Rattle.kf_core.specs.Limits.{most_slots};
 ghost use Rattle.kf_words.specs.Nodes.{FoundFree, Searched, HasNext, master_view};
 ghost use Rattle.kf_words.specs.Notes.{history_of};
-ghost use Rattle.kf_words.specs.Searches.{AreFull, AreMarked, SearchesOn};
+ghost use Rattle.kf_words.specs.Searches.{AreLinked, AreMarked, SearchesOn};
 
-use crate::blocks::{BLOCK, GROUP, is_unlinked};
+use crate::blocks::{BLOCK, GROUP, first_unset, is_unlinked, with_bit};
 use crate::layout::is_free;
 use crate::master_seat::MasterSeat;
-use kf_core::SlotState;
+use kf_core::{SlotList, SlotState};
 
 impl MasterSeat {
-    /// The first slot of a block that is found free. It loads no hold word of a slot that has a node,
-    /// and passes over a block that is marked full. If it finds a node in each slot, it marks the block.
-    fn free_in_block(&mut self, slots: &[SlotState], full: &mut [bool], block: usize) -> Option<u32>
+    /// The first slot of a block that is found free. It skips each slot whose bit is set, and loads the hold
+    /// words only of slots without a node. It sets the bit of each slot in which it finds a node.
+    ///
+    /// Condition: the block is one of those that have bits.
+    fn free_in_block(
+        &mut self,
+        slots: &SlotList<SlotState>,
+        full: &mut [u64],
+        block: usize,
+    ) -> Option<u32>
         requires slots { slots.now ≡ (master_view self.old).slots }
         requires block { block < length full.old }
         requires few { length full.old ≤ most_slots / 64 }
-        requires full { AreFull 64 full.old slots.now }
+        requires linked { AreLinked full.old slots.now }
         ensures table { self.new.token.table_id ≡ self.old.token.table_id }
         ensures slots { (master_view self.new).slots ≡ (master_view self.old).slots }
         ensures history { history_of self.new.token.me.0.seen ≡ history_of self.old.token.me.0.seen }
@@ -25,32 +32,33 @@ impl MasterSeat {
             (master_view self.new) }
         ensures next { IfSome result (λ slot. HasNext (master_view self.new) slot) }
         ensures free { IfSome result (λ slot. FoundFree (master_view self.new) slot) }
-        ensures full { AreFull 64 full.new slots.now }
+        ensures linked { AreLinked full.new slots.now }
     {
-        if full[block] {
-            return None;
-        }
         let start = block as u32 * BLOCK;
-        let mut all_linked = true;
-        for slot in start..start + BLOCK {
+        let mut place = first_unset(full[block], 0);
+        while place < BLOCK {
+            let slot = start + place;
             if is_unlinked(slots, slot) {
-                all_linked = false;
                 let found = self.load_hold(slot);
                 if is_free(found) {
                     return Some(slot);
                 }
+            } else {
+                full[block] = with_bit(full[block], place);
             }
+            place = first_unset(full[block], place + 1);
         }
-        full[block] = all_linked;
         None
     }
 
-    /// The first slot of a group of blocks that is found free, block by block. It passes over a group that is
-    /// marked full. If each of its blocks is marked in the end, it marks the group.
+    /// The first slot of a group of blocks that is found free, block by block. It skips a group that is
+    /// marked full. If all bits of its blocks are set in the end, it marks the group.
+    ///
+    /// Condition: the group is one of those that have a mark.
     fn free_in_group(
         &mut self,
-        slots: &[SlotState],
-        full: &mut [bool],
+        slots: &SlotList<SlotState>,
+        full: &mut [u64],
         full_groups: &mut [bool],
         group: usize,
     ) -> Option<u32>
@@ -75,18 +83,18 @@ impl MasterSeat {
             if let Some(slot) = self.free_in_block(slots, full, block) {
                 return Some(slot);
             }
-            all_full = all_full && full[block];
+            all_full = all_full && full[block] == u64::MAX;
         }
         full_groups[group] = all_full;
         None
     }
 
-    /// The first slot from 1 up that is found free, group by group. Where all slots below it have nodes, it
-    /// costs a look for each group before it, each block before it in its group, each slot in its block.
+    /// The first slot from 1 up that is found free, group by group. If all slots below it are known to have
+    /// nodes, it costs a look for each group before it, and for each block before it in its group.
     pub(crate) fn find_free(
         &mut self,
-        slots: &[SlotState],
-        full: &mut [bool],
+        slots: &SlotList<SlotState>,
+        full: &mut [u64],
         full_groups: &mut [bool],
     ) -> Option<u32>
         requires slots { slots.now ≡ (master_view self.old).slots }

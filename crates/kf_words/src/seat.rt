@@ -1,5 +1,5 @@
 //! A caller's seat at the table of words, and an owner of it without a seat. Their fields are private: the
-//! files of this module alone read them, and `new`, `moved` and `end_to_owner` alone take a seat apart.
+//! only the files of this module read them, and only `new`, `moved` and `end_to_owner` take a seat apart.
 ghost use Rattle.std.specs.Prelude.{◌≡◌, ◌*◌, ◌<◌, ◌≤◌, None, []};
 ghost use Rattle.std.specs.Arc.{arc_value};
 ghost use Rattle.kf_words.specs.Layout.{line_words};

@@ -6,7 +6,7 @@ use crate::view::View;
 use std::collections::LinkedList;
 
 /// How the table begins: this many slots, each with at most this many holds, the last generation `start`
-/// and no node. The root's slot alone has a node, which is live and of the next generation.
+/// and no node. Only the root's slot has a node, which is live and of the next generation.
 #[derive(Clone, Copy)]
 pub struct Opening {
     pub holds: u32,
@@ -14,7 +14,7 @@ pub struct Opening {
     pub start: u32,
 }
 
-/// What a step does: of a caller, by its number, or of the Master, on a slot. A note alone is on no slot.
+/// What a step does: of a caller, by its number, or of the Master, on a slot. Only a note is on no slot.
 pub enum StepKind {
     /// One more user in the active word (an addition).
     Tries(u64),
@@ -78,7 +78,7 @@ pub struct Seen {
 }
 
 /// What a seat knows: its view, the beginning of the run that it has seen, and one that another seat had seen
-/// which was told to it.
+/// and passed to it.
 pub struct Sight {
     pub view: View,
     pub seen: Seen,

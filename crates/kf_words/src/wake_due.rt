@@ -17,9 +17,9 @@ pub enum Wake {
     Unwanted,
 }
 
-/// What a step that took one user off an active word owes to the sleepers there: a wake, if by the word
-/// that it found one of them may wait for what is left. It is spent by a wake, by `none` if no wake is
-/// wanted, or by `must_wake`: code that forgets it does not compile.
+/// What a step that took one user off an active word owes to the sleepers there: a wake, if by the word that
+/// it found one of them may wait for what is left. It is spent by a wake, by `none` if they need no wake, or
+/// by `must_wake`: code that forgets it does not compile.
 pub struct WakeDue {
     slot: u32,
     found: u64,
@@ -52,7 +52,7 @@ impl WakeDue {
 
     /// Spends it with no wake.
     ///
-    /// Condition: a wake is not wanted.
+    /// Condition: `is_wanted` returns false.
     pub fn none(self)
         requires { wants_wake (self.found - 1) ≡ false }
     {
@@ -84,7 +84,7 @@ impl WakeDue {
         seat.wake_all();
     }
 
-    /// Wakes all sleepers of the slot, if a wake is wanted.
+    /// Wakes all sleepers of the slot, if the step owes them a wake.
     pub(crate) fn spend(self, seat: &mut CallerSeat)
         requires { self.slot ≡ seat.old.key.slot }
         ensures same { IsSameSeat (handle_of seat.old) (handle_of seat.new) }

@@ -18,7 +18,7 @@ use crate::master_seat::MasterSeat;
 use crate::master_token::MasterToken;
 use crate::sight::Opening;
 use crate::table::WordTable;
-use kf_core::{Limits, Node, NodeFlags, Refusal, SlotState};
+use kf_core::{Limits, Node, NodeFlags, Refusal, SlotList, SlotState};
 use std::alloc::{AllocError, Global};
 use std::marker::Model;
 use std::sync::Arc;
@@ -53,70 +53,56 @@ fn first_words(alloc: Global, slots: u32, start: u32) -> Result<Vec<u64>, AllocE
 }
 
 /// The slots at the opening.
-fn first_slots(alloc: Global, slots: u32, start: u32) -> Result<Vec<SlotState>, AllocError>
+fn first_slots(alloc: Global, slots: u32, start: u32) -> Result<SlotList<SlotState>, Refusal>
     requires some { 1 ≤ slots }
     requires generations { start ≤ 4294967294 }
-    ensures { IfOk result (λ states. states.items ≡ (opened 0 slots start).slots) }
+    ensures made { IfOk result (λ states. states ≡ (opened 0 slots start).slots) }
+    ensures refused { IfErr result (λ why. why ≡ refusal_of.NoMemory) }
 {
-    let mut states = vec![in alloc; SlotState {
+    let empty = SlotState {
         generation: start,
-        marks: None
-    }; slots as usize]?;
-    states[0] = SlotState {
+        marks: None,
+    };
+    let root = SlotState {
         generation: start + 1,
         marks: Some(NodeFlags {
             activated: true,
             doomed: false,
         }),
     };
+    let mut states = SlotList::new(alloc, slots as usize, empty)?;
+    states.set(0, root);
     Ok(states)
 }
 
-/// What a Master keeps by slot, at the opening.
-fn first_lists(
-    alloc: Global,
-    slots: u32,
-    start: u32,
-) -> Result<(Vec<SlotState>, Vec<Node>), AllocError>
-    requires some { 1 ≤ slots }
-    requires generations { start ≤ 4294967294 }
-    ensures slots { IfOk result (λ r. r.0.items ≡ (opened 0 slots start).slots) }
-    ensures nodes { IfOk result (λ r. r.1.items ≡ replicate slots node_of.Dir) }
-{
-    let states = first_slots(alloc, slots, start)?;
-    let nodes = vec![in alloc; Node::Dir; slots as usize]?;
-    Ok((states, nodes))
-}
-
-/// The marks of blocks and of groups, at the opening: none is marked. All groups are whole, so the last may
-/// have blocks of no slots.
-fn first_marks(alloc: Global, slots: u32) -> Result<(Vec<bool>, Vec<bool>), AllocError>
+/// The bits of blocks and the marks of groups, at the opening: none is set. All groups are whole, so the last
+/// may have blocks of no slots.
+fn first_marks(alloc: Global, slots: u32) -> Result<(Vec<u64>, Vec<bool>), Refusal>
     requires some { 1 ≤ slots }
     requires few { slots ≤ most_slots }
     ensures marked { IfOk result
         (λ r. (states : List SlotState) → length states ≡ slots → AreMarked r.0.items r.1.items states) }
+    ensures refused { IfErr result (λ why. why ≡ refusal_of.NoMemory) }
 {
     let groups = group_of(slots - 1) + 1;
-    let full = vec![in alloc; false; groups * GROUP]?;
+    let full = vec![in alloc; 0u64; groups * GROUP]?;
     let full_groups = vec![in alloc; false; groups]?;
     Ok((full, full_groups))
 }
 
-/// A new table with the words of its opening, and the Master's seat at it.
-fn open_table(
-    alloc: Global,
-    words: &[u64],
-    opening: Opening,
-) -> Result<(Words, MasterSeat), AllocError>
+/// A new table with the words of its opening, and the Master's seat at it. The table copies the words, so
+/// both copies are in memory until it returns, and nothing else of the Master's is yet.
+fn open_table(alloc: Global, opening: Opening) -> Result<(Words, MasterSeat), AllocError>
     requires some { 1 ≤ opening.slots }
     requires few { opening.holds ≤ 65535 }
-    requires words { words.now ≡ opening_words opening.slots opening.start }
+    requires generations { opening.start ≤ 4294967294 }
     ensures table { IfOk result (λ r. r.0 ≡ r.1.token.table_id) }
     ensures view { IfOk result
         (λ r. master_view r.1 ≡ opened opening.holds opening.slots opening.start) }
     ensures history { IfOk result (λ r. history_of r.1.token.me.0.seen ≡ []) }
 {
-    let (table, token) = WordTable::of_words(alloc, words, &opening)?;
+    let words = first_words(alloc, opening.slots, opening.start)?;
+    let (table, token) = WordTable::of_words(alloc, words.as_slice(), &opening)?;
     let table = Arc::new(alloc, table)?;
     let shared = Arc::try_clone(&table)?;
     let steps = MasterSeat {
@@ -155,31 +141,17 @@ impl Words {
         ensures history { IfOk result (λ r. history_of r.1.seen ≡ []) }
         ensures refused { IfErr result (λ why. why ≡ refusal_of.NoMemory) }
     {
-        match Words::open(alloc, limits, start) {
-            Ok(opened) => Ok(opened),
-            Err(_) => Err(Refusal::NoMemory),
-        }
-    }
-
-    /// As `new_at`, which names the refusal.
-    fn open(alloc: Global, limits: Limits, start: u32) -> Result<(Words, Master), AllocError>
-        requires { start ≤ 4294967294 }
-        ensures table { IfOk result (λ r. r.0 ≡ r.1.table) }
-        ensures view { IfOk result (λ r. r.1.view ≡ opened limits.holds limits.slots start) }
-        ensures nodes { IfOk result (λ r. r.1.nodes ≡ replicate limits.slots node_of.Dir) }
-        ensures history { IfOk result (λ r. history_of r.1.seen ≡ []) }
-    {
         let count = limits.slots();
         let holds = limits.holds();
-        let words = first_words(alloc, count, start)?;
-        let (slots, nodes) = first_lists(alloc, count, start)?;
-        let (full, full_groups) = first_marks(alloc, count)?;
         let opening = Opening {
             holds,
             slots: count,
             start,
         };
-        let (table, steps) = open_table(alloc, words.as_slice(), opening)?;
+        let (table, steps) = open_table(alloc, opening)?;
+        let slots = first_slots(alloc, count, start)?;
+        let nodes = SlotList::new(alloc, count as usize, Node::Dir)?;
+        let (full, full_groups) = first_marks(alloc, count)?;
         let master = Master {
             steps,
             slots,

@@ -3,7 +3,7 @@
 use Rattle.std.specs.Prelude.{ℕ, Bool, List, ◌≡◌, ◌≤◌, length, decimal, Result, IfOk, Option, None, Some}
 use Rattle.kf_core.specs.declared.key.Key.{Key}
 use Rattle.kf_core.specs.declared.refusal.Refusal.{Refusal}
-use Rattle.kf_files.specs.declared.ops.FileError.{FileError}
+use Rattle.kf_pages.specs.declared.ops.FileError.{FileError}
 use Rattle.kf_core.specs.Tree.{Tree}
 use Rattle.kf_tree.specs.Links.{HasLinkText}
 use Rattle.kf_tree.specs.declared.stat.Stat.{Stat}

@@ -1,6 +1,6 @@
 -- Which of two serves a tag: below the first tag of devices the one of scripts' files, else that of devices.
 use Rattle.std.specs.Prelude.{ℕ, List, Bool, true, false, nat_le, Result}
-use Rattle.kf_files.specs.declared.ops.Fault.{Fault}
+use Rattle.kf_pages.specs.declared.ops.Fault.{Fault}
 
 -- 2^63, the least tag of a device's file
 abbrev pub first_device_tag : ℕ

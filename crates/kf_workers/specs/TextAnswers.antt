@@ -1,6 +1,6 @@
 -- What the callbacks over the texts of a run may return.
 use Rattle.std.specs.Prelude.{ℕ, List, ◌≡◌, ◌⊎◌, length, Result, IfErr, MatchResult}
-use Rattle.kf_files.specs.declared.ops.Fault.{Fault}
+use Rattle.kf_pages.specs.declared.ops.Fault.{Fault}
 
 -- a text is shown, or the tag has none
 abbrev pub ShowsKept : ℕ → Result (List ℕ) Fault → Type 0

@@ -2,7 +2,7 @@
 use Rattle.std.specs.Prelude.{ℕ, Bool, List, take, Result, Ok, Err}
 use Rattle.kf_core.specs.declared.key.Key.{Key}
 use Rattle.kf_core.specs.declared.refusal.Refusal.{Refusal}
-use Rattle.kf_files.specs.declared.ops.FileError.{FileError}
+use Rattle.kf_pages.specs.declared.ops.FileError.{FileError}
 use Rattle.kf_tree.specs.declared.stat.Stat.{Stat}
 use Rattle.kf_script.specs.ReplyText.{done_text, refusal_text, key_text, names_text, poll_text}
 use Rattle.kf_replies.specs.ReplyParts.{error_text, told_text}

@@ -4,8 +4,8 @@ ghost use Rattle.std.specs.Prelude.{◌≡◌, ◌<◌, ◌≤◌, ℕ, List, []
 ghost use Rattle.kf_core.specs.Phases.{has_reference};
 ghost use Rattle.kf_core.specs.declared.caller.Phase.TheVariants.{Running};
 ghost use Rattle.kf_words.specs.Callers.{IsSameSeat};
-ghost use Rattle.kf_files.specs.declared.ops.Fault.{Fault};
-ghost use Rattle.kf_files.specs.Files.{filled_by};
+ghost use Rattle.kf_pages.specs.declared.ops.Fault.{Fault};
+ghost use Rattle.kf_pages.specs.Files.{filled_by};
 
 use kf_files::{Fault, Page};
 use kf_shared::{Naming, SharedTree};

@@ -4,7 +4,7 @@ ghost use Rattle.std.specs.Prelude.{◌≡◌, ◌<◌, ◌≤◌, [], length, t
 ghost use Rattle.kf_core.specs.declared.caller.Phase.TheVariants.{Running};
 ghost use Rattle.kf_core.specs.declared.refusal.Refusal.TheVariants.{NoMemory};
 ghost use Rattle.kf_core.specs.Phases.{has_reference};
-ghost use Rattle.kf_files.specs.Files.{filled_by};
+ghost use Rattle.kf_pages.specs.Files.{filled_by};
 ghost use Rattle.kf_words.specs.Callers.{IsSameSeat};
 ghost use Rattle.kf_workers.specs.TextAnswers.{BeginsUnlessFull, ShowsKept, StoresWhole};
 

@@ -6,7 +6,7 @@ ghost use Rattle.kf_script.specs.Requests.{make_directory as make_directory_word
 
 use super::PlainBoard;
 use kf_core::Refusal;
-use kf_files::Want;
+use kf_pages::Want;
 use kf_replies::tell_stat;
 use kf_script::{Board, Reply, Request};
 

@@ -3,8 +3,8 @@
 ghost use Rattle.std.specs.Prelude.{◌≡◌, ◌<◌, ℕ, take, None, Some, Ok, Err, Result, IfOk, IfErr, OnOk, IsSome, slice_index};
 ghost use Rattle.kf_core.specs.declared.key.Key.{Key};
 ghost use Rattle.kf_core.specs.declared.refusal.Refusal.TheVariants.{Invalid};
-ghost use Rattle.kf_files.specs.declared.ops.FileError.{FileError};
-ghost use Rattle.kf_files.specs.Files.{FileState, Reads, Writes, Polls, Stored, text_told};
+ghost use Rattle.kf_pages.specs.declared.ops.FileError.{FileError};
+ghost use Rattle.kf_pages.specs.Files.{FileState, Reads, Writes, Polls, Stored, text_told};
 ghost use Rattle.kf_plain.specs.PlainInside.{IsShort};
 ghost use Rattle.kf_plain.specs.Plain.{OpenPlainFile, with_file};
 ghost use Rattle.kf_plain.specs.PlainFiles.{open_held, opened_key, new_open, known_file, notified_key, with_event, VisitsNode, ShowsText, StoresOnBoard};
@@ -14,7 +14,7 @@ ghost use Rattle.kf_plain.specs.Settled.{IsRefusedFrom};
 use super::PlainBoard;
 use crate::nodes::BoardFile;
 use kf_core::{Node, Refusal};
-use kf_files::{FileError, Want};
+use kf_pages::{FileError, Want};
 use kf_replies::{tell_count, tell_error};
 use kf_script::Reply;
 

@@ -18,7 +18,7 @@ ghost use Rattle.kf_plain.specs.Settled.{IsWhy, IsWhyFrom, Leads};
 
 use super::{BoardFile, Nodes};
 use kf_core::{Key, Node, Refusal};
-use kf_files::Want;
+use kf_pages::Want;
 
 impl Nodes {
     /// Links a new node at a path, under the next key.

@@ -8,7 +8,7 @@ ghost use Rattle.kf_core.specs.declared.refusal.Refusal.TheVariants.{NoMemory, T
 ghost use Rattle.kf_core.specs.Phases.{is_waiting};
 ghost use Rattle.kf_core.specs.Tree.{is_linked};
 ghost use Rattle.kf_table.specs.Live.{live_in};
-ghost use Rattle.kf_files.specs.Files.{Polls, Reads, Stored, Writes, new_file, tag_of, text_told};
+ghost use Rattle.kf_pages.specs.Files.{Polls, Reads, Stored, Writes, new_file, tag_of, text_told};
 ghost use Rattle.kf_world.specs.Bounded.{hold_count};
 ghost use Rattle.kf_plain.specs.Nodes.{StillWaits, Waits, with_spent};
 ghost use Rattle.kf_plain.specs.TextTable.{ShowsOf, StoresIn};
@@ -18,7 +18,7 @@ use super::Nodes;
 use crate::events::{EventTable, SlotEvents};
 use crate::text_table::TextTable;
 use kf_core::{Key, Node, Refusal};
-use kf_files::{FileError, HeldFile, Page, Want};
+use kf_pages::{FileError, HeldFile, Page, Want};
 use kf_world::World;
 
 /// An open file, and the key of its node.

@@ -41,8 +41,8 @@ impl CallerSeat {
         })
     }
 
-    /// The one way in which a seat ends, and only if its hold was given back: the view says Spent after
-    /// the step of `release_seat` alone. Its owner is left.
+    /// The one way in which a seat ends, and only if its hold was given back: the view says Spent
+    /// only after the step of `release_seat`. Its owner is left.
     pub(crate) fn end_to_owner(self) -> Owner
         requires { (view_of self).phase ≡ phase_of.Spent }
         ensures { owned_table result ≡ self.token.table_id }

@@ -187,7 +187,7 @@ impl CallerSeat {
     {
         let mut guess = first;
         for tries in 0..TRIES {
-            let _ = tries; // the proof alone names it
+            let _ = tries; // only the proof names it
             match self.try_pin(key, guess) {
                 Ok(token) => return Ok(token),
                 Err(Err(why)) => return Err(why),

@@ -1,4 +1,4 @@
-//! What a seat has seen, told to the Master and by it, with nothing changed in any word.
+//! What a seat has seen, passed to the Master and back from it, with nothing changed in any word.
 ghost use Rattle.std.specs.Prelude.{◌≡◌, ◌≢◌, []};
 ghost use Rattle.kf_core.specs.declared.caller.Phase.TheVariants as phase_of;
 ghost use Rattle.kf_words.specs.Callers.{handle_of, having_seen, view_of};

@@ -111,7 +111,7 @@ impl CallerSeat {
     {
         let mut guess = self.peek_holds();
         for tries in 0..TRIES {
-            let _ = tries; // the proof alone names it
+            let _ = tries; // only the proof names it
             match self.try_another(guess) {
                 Ok(token) => return Ok(token),
                 Err(None) => return Err(Refusal::TooManyHolds),
@@ -121,8 +121,8 @@ impl CallerSeat {
         Err(Refusal::Busy)
     }
 
-    /// Why there is no other hold if the table can have no owner more: for want of memory only if the
-    /// slot has a place.
+    /// Why there is no other hold if the table can have no further owner: lack of memory only if the slot
+    /// has room.
     fn refuse_another(&mut self) -> Refusal
         requires { IsAtRest (view_of self.old) }
         ensures same { IsSameSeat (handle_of self.old) (handle_of self.new) }

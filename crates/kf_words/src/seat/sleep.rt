@@ -10,13 +10,13 @@
 //! A sleeper waits for the step that leaves the word with no user. That step's (3) comes after the
 //! sleeper's (2), which found users. So its (4) comes after (1) and finds the sleeper counted, and its (5)
 //! finds the sleeper in the queue. A seat that is awake takes itself off the count. If it stays there a
-//! moment too long, that costs a system call and no more.
+//! moment too long, that costs only a system call.
 //!
-//! The count has a word of its own, to which no birth stores: a sleeper holds the slot. (1), (3), (4) and
+//! The count is in a third word, to which no birth stores: a sleeper holds the slot. (1), (3), (4) and
 //! the step that takes a sleeper off the count are steps of the one run. Clauses name them in this order
 //! (`WasAsleep`, `WasMadeThenWake`), and the law `sleepers_are_found` says that (4) finds a sleeper. It is
 //! not proved that the number found decides, and no clause sees the kernel's queue. `.ci/unseen_steps` says
-//! where a load may be that the rule does not see, and `hostile/wake_model.py` tries each order of these
+//! which loads may be unseen by the rule, and `hostile/wake_model.py` tries each order of these
 //! steps.
 ghost use Rattle.std.specs.Prelude.{◌≡◌, ◌<◌, ℕ};
 ghost use Rattle.std.specs.Arc.{arc_value};
@@ -32,7 +32,7 @@ use std::sync::Wait;
 use std::time::Duration;
 
 impl CallerSeat {
-    /// Where the count of its slot's sleepers stands.
+    /// The index of the count of its slot's sleepers in the table.
     fn sleepers_index(&self) -> usize
         ensures here { result ≡ sleepers_index self.now.key.slot }
         ensures within { result < (arc_value self.now.table).shared.table_id.words }

@@ -16,7 +16,7 @@ use crate::seat::CallerSeat;
 use crate::wake_due::WakeDue;
 
 impl CallerSeat {
-    /// Where its slot's active word stands.
+    /// The index of its slot's active word in the table.
     pub(crate) fn active_index(&self) -> usize
         ensures here { result ≡ active_index self.now.key.slot }
         ensures within { result < (arc_value self.now.table).shared.table_id.words }
@@ -148,7 +148,7 @@ impl CallerSeat {
             .fetch_sub::<Shows>(&mut self.token, word, HIDE)
     }
 
-    /// Where its slot's hold word stands.
+    /// The index of its slot's hold word in the table.
     pub(crate) fn hold_index(&self) -> usize
         ensures here { result ≡ hold_index self.now.key.slot }
         ensures within { result < (arc_value self.now.table).shared.table_id.words }

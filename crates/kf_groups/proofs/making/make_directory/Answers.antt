@@ -4,7 +4,8 @@ use Rattle.kf_core.specs.declared.key.Node.TheVariants.{Dir}
 use Rattle.kf_core.specs.declared.refusal.Refusal.TheVariants.{NoMemory}
 use Rattle.kf_tree.specs.TreeLogs.{TreeLog}
 use Rattle.kf_groups.specs.Attributes.{shown}
-use Rattle.kf_groups.specs.Keeps.{Keeps, node_count}
+use Rattle.kf_groups.specs.Keeps.{Keeps}
+use Rattle.kf_tree.specs.Subtrees.{linked_count}
 use Rattle.kf_groups.proofs.Counts.{gave_up}
 use Rattle.kf_groups.proofs.Makings.{all_made, created, directory_made}
 use Rattle.kf_groups.proofs.Lacks.{activate_lacks, create_lacks}
@@ -96,7 +97,7 @@ returns-clause-others g c =
 pub returns-clause-counted : goal.returns-clause-counted
 returns-clause-counted g c =
     let live = activated_count c.fill.new.editor.state c.activate.new.self.state _ c.in_ok-key.key c.in_default-activate.ensures.accepted in
-    let one : node_count c.create.new.self.state.tree ≡ node_count c.args.editor.now.state.tree + 1 =
+    let one : linked_count c.create.new.self.state.tree ≡ linked_count c.args.editor.now.state.tree + 1 =
     made_more g.N.Naming.table c.args.editor.now c.create.new.self c.args.dir c.in_ok-key.key _ _
     c.state.ensures.whole c.in_ok-key.ensures.next c.in_ok-key.ensures.accepted in
     let files = c.in_default.ensures.counted in

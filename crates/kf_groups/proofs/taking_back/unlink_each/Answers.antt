@@ -5,7 +5,7 @@ use Rattle.std.proofs.lemmas.List.Elements.{All-nil}
 use Rattle.kf_shared.specs.Receipts.{AreOf}
 use Rattle.kf_shared.specs.Removal.{keys_of}
 use Rattle.kf_tree.proofs.Storing.{none_same}
-use Rattle.kf_groups.specs.Keeps.{node_count}
+use Rattle.kf_tree.specs.Subtrees.{linked_count}
 use Rattle.kf_groups.proofs.Counts.{unlinked_more}
 use Rattle.kf_groups.proofs.Unlinks.{all_among, first_of, one_more, rest_of}
 use Rattle.kf_groups.proofs.taking_back.unlink_each.Goals as goal
@@ -18,7 +18,7 @@ loop-hold-init g c =
       tables = subst (AreOf g.N.Naming.table) same c.requires.tables;
       among = subst (λ hs. All (λ h. Contains among h.key) hs) same (all_among c.args.holds.items);
       unlinked = ([], All-nil (Contains among), none_same _ _ refl);
-      counted = λ _. ap (λ hs. node_count c.args.editor.now.state.tree + length hs) same;
+      counted = λ _. ap (λ hs. linked_count c.args.editor.now.state.tree + length hs) same;
       claims = refl;
     }
 
@@ -41,8 +41,8 @@ loop-hold-preserved g c =
       among = rest_of (λ h. Contains among h.key) all rest c.in-Some.hold parts i.among;
       unlinked = one_more among c.args.editor.now.state c.loop-hold.editor.state c.unlink-unlinked.new.editor.state c.in-Some.hold.key
           i.unlinked (first_of (λ h. Contains among h.key) all rest c.in-Some.hold parts i.among) c.unlink-unlinked.ensures.unlinked;
-      counted = unlinked_more (node_count c.args.editor.now.state.tree) (node_count c.loop-hold.editor.state.tree)
-          (node_count c.unlink-unlinked.new.editor.state.tree) (length c.args.holds.items) c.loop-hold.all c.unlink-unlinked.result
+      counted = unlinked_more (linked_count c.args.editor.now.state.tree) (linked_count c.loop-hold.editor.state.tree)
+          (linked_count c.unlink-unlinked.new.editor.state.tree) (length c.args.holds.items) c.loop-hold.all c.unlink-unlinked.result
           all rest c.in-Some.hold parts i.counted c.unlink-unlinked.ensures.counted;
       claims = c.unlink-unlinked.ensures.claims ∙ i.claims;
     }

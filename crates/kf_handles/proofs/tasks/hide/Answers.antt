@@ -9,13 +9,13 @@ use Rattle.kf_handles.proofs.tasks.hide.Goals.{in-Done, in-Not, in-Refused, in_d
 
 -- each result by itself
 pub returns-clause-why : goal.returns-clause-why
-returns-clause-why c = λ not_done not_again. elim c.match-replace_with.branch [
+returns-clause-why c = λ not_done not_again. elim c.match-step_handle.branch [
   | in-Done w ↦ search (rules, w, not_done)
   | in-Not w ↦ search (rules, w, not_again)
   | in-Refused w ↦
-      let refused : SteppedBehind (asks.Hide (key_in c.args.key)) c.args.handle.now.place.object c.replace_with.new.dest.place.object
+      let refused : SteppedBehind (asks.Hide (key_in c.args.key)) c.args.handle.now.place.object c.step_handle.new.handle.place.object
       (told.Refused w.in-Refused.refusal) = search (rules, w) in
-      step_told (asks.Hide (key_in c.args.key)) c.args.handle.now.place.object c.replace_with.new.dest.place.object w.in-Refused.refusal _
+      step_told (asks.Hide (key_in c.args.key)) c.args.handle.now.place.object c.step_handle.new.handle.place.object w.in-Refused.refusal _
       refused (search (rules, w))
   | in_default w ↦ search (rules, w)
 ]

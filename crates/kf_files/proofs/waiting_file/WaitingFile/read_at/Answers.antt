@@ -1,5 +1,5 @@
-use Rattle.kf_files.specs.Binary.{NumberedRead}
-use Rattle.kf_files.proofs.Offsets.{reads_at_told, may_read}
+use Rattle.kf_pages.specs.Binary.{NumberedRead}
+use Rattle.kf_files.proofs.MayRead.{reads_at_told, may_read}
 use Rattle.kf_files.proofs.Waits.{visits_told}
 use Rattle.kf_files.proofs.waiting_file.WaitingFile.read_at.Goals as goal
 

@@ -3,7 +3,7 @@ use Rattle.kf_world.proofs.WorldVisits.{alone}
 use Rattle.kf_plain.proofs.Callers.{waits_inside}
 use Rattle.kf_plain.proofs.BoardVisits.{visited, to_live, either_way, live_seen, tied_slots, seen_same, seen_waits, can_try, reads_by, reads_visit}
 use Rattle.std.proofs.Common.{ℕ}
-use Rattle.kf_files.specs.Opened.{Held}
+use Rattle.kf_pages.specs.Held.{Held}
 use Rattle.kf_plain.specs.declared.nodes.visits.BoardFile.{BoardFile}
 use Rattle.kf_plain.proofs.HiddenMarks.{told_by, hiders_waiting}
 use Rattle.kf_plain.proofs.nodes.Nodes.read.Goals as goal

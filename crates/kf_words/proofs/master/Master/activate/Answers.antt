@@ -16,13 +16,13 @@ invariant_of-self c =
     let key : Key = c.args.key in
     let own : MasterView = master_view c.self.inside.steps in
     let fresh : marks_of own key ≡ Some fresh_marks = ap (λ (s : MasterState). marks_of s.view key) c.self.view_is ∙ c.requires in
-    let slots : List SlotState = c.self.inside.slots.items in
+    let slots : List SlotState = c.self.inside.slots in
     let live : SlotState = record { generation = key.generation; marks = Some live_marks } in
     let long = length-set slots key.slot live in
     let root = c.self.invariant.root in
     let few = c.self.invariant.few in
     let all = c.self.invariant.all_nodes in
-    record {
+    rw c.set.ensures.set (record {
       root = omega arith;
       few = omega arith;
       same_slots = ap (λ (y : MasterView). y.slots) c.take_bias.ensures.view ∙ slots_remarked own key activated_marks fresh_marks fresh ∙ ap (λ (l : List SlotState). slots_with l key (Some live_marks)) c.self.invariant.same_slots;
@@ -30,7 +30,7 @@ invariant_of-self c =
       no_pin = ap (λ (y : MasterView). y.pinning) c.take_bias.ensures.view ∙ c.self.invariant.no_pin;
       all_nodes = all ∙ sym long;
       marked = marked_linked c.self.inside.full.items c.self.inside.full_groups.items slots key.slot live refl c.self.invariant.marked;
-    }
+    })
 
 pub returns-clause-slots : goal.returns-clause-slots
 returns-clause-slots c =

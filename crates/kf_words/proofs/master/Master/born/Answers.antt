@@ -21,15 +21,15 @@ pub invariant_of-self : goal.invariant_of-self
 invariant_of-self c =
     let key : Key = c.args.key in
     let own : MasterView = master_view c.self.inside.steps in
-    let slots : List SlotState = c.self.inside.slots.items in
+    let slots : List SlotState = c.self.inside.slots in
     let fresh : SlotState = record { generation = key.generation; marks = Some fresh_marks } in
     let long = length-set slots key.slot fresh in
-    let all_set = length-set c.self.inside.nodes.items key.slot c.args.node in
+    let all_set = length-set c.self.inside.nodes key.slot c.args.node in
     let root = c.self.invariant.root in
     let few = c.self.invariant.few in
     let all = c.self.invariant.all_nodes in
     let is = c.birth.ensures.view ∙ ap (λ (y : MasterView). with_birth key.slot y) (c.note_node.ensures.view ∙ c.store_fresh.ensures.view) in
-    record {
+    rw c.set.ensures.set (rw c.set-2.ensures.set (record {
       root = omega arith;
       few = omega arith;
       same_slots = ap (λ (y : MasterView). y.slots) is ∙ slots_born own key (subst (λ (s : MasterState). IsVacant s.view key) (sym c.self.view_is) c.requires.vacant) ∙ ap (λ (l : List SlotState). slots_with l key (Some fresh_marks)) c.self.invariant.same_slots;
@@ -37,7 +37,7 @@ invariant_of-self c =
       no_pin = ap (λ (y : MasterView). y.pinning) is ∙ c.self.invariant.no_pin;
       all_nodes = omega arith;
       marked = marked_linked c.self.inside.full.items c.self.inside.full_groups.items slots key.slot fresh refl c.self.invariant.marked;
-    }
+    }))
 
 pub returns-clause-slots : goal.returns-clause-slots
 returns-clause-slots c =

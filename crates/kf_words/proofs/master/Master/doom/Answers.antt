@@ -17,13 +17,13 @@ invariant_of-self c =
     let own : MasterView = master_view c.self.inside.steps in
     let x : NodeFlags = c.in-Some.marks in
     let had : marks_of own key ≡ Some x = ap (λ (s : MasterState). marks_of s.view key) c.self.view_is ∙ sym c.marks.ensures ∙ c.in-Some.is in
-    let slots : List SlotState = c.self.inside.slots.items in
+    let slots : List SlotState = c.self.inside.slots in
     let state : SlotState = record { generation = key.generation; marks = Some (doomed_marks x) } in
     let long = length-set slots key.slot state in
     let root = c.self.invariant.root in
     let few = c.self.invariant.few in
     let all = c.self.invariant.all_nodes in
-    record {
+    rw c.set.ensures.set (record {
       root = omega arith;
       few = omega arith;
       same_slots = ap (λ (y : MasterView). y.slots) c.mark_node.ensures.view ∙ slots_remarked own key doomed_marks x had ∙ ap (λ (l : List SlotState). slots_with l key (Some (doomed_marks x))) c.self.invariant.same_slots;
@@ -31,7 +31,7 @@ invariant_of-self c =
       no_pin = ap (λ (y : MasterView). y.pinning) c.mark_node.ensures.view ∙ c.self.invariant.no_pin;
       all_nodes = all ∙ sym long;
       marked = marked_linked c.self.inside.full.items c.self.inside.full_groups.items slots key.slot state refl c.self.invariant.marked;
-    }
+    })
 
 pub returns-in-Some-clause-slots : goal.returns-in-Some-clause-slots
 returns-in-Some-clause-slots c x had =

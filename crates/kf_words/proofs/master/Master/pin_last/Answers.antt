@@ -30,12 +30,12 @@ give_hold-token-requires-clause-slot c =
     let same = ap (λ (x : MasterView). x.slots) c.pin_hold.ensures.view ∙ ap (λ (x : MasterView). x.slots) c.load_hold-found.ensures.view ∙ ap (λ (s : MasterState). s.view.slots) c.self.view_is in
     last_within c.args.self.now.view (master_view c.pin_hold.new.self) c.args.key c.requires same
 
-pub index-node-requires : goal.index-node-requires
-index-node-requires c =
+pub at-node-requires : goal.at-node-requires
+at-node-requires c =
     let near = last_within c.args.self.now.view (master_view c.self.inside.steps) c.args.key c.requires (ap (λ (s : MasterState). s.view.slots) c.self.view_is) in
     let long = ap (λ (l : List SlotState). length l) c.self.invariant.same_slots in
     let nodes = c.self.invariant.all_nodes in
-    omega (arith, c.self.inside.nodes.ok.0)
+    omega arith
 
 pub new-requires-clause-key : goal.new-requires-clause-key
 new-requires-clause-key c =
@@ -57,13 +57,13 @@ returns-clause-hold c =
     let near = last_within c.args.self.now.view (master_view c.self.inside.steps) c.args.key c.requires (ap (λ (s : MasterState). s.view.slots) c.self.view_is) in
     let long = ap (λ (l : List SlotState). length l) c.self.invariant.same_slots in
     let nodes = c.self.invariant.all_nodes in
-    let within : c.args.key.slot < length c.self.inside.nodes.items = omega arith in
+    let within : c.args.key.slot < length c.self.inside.nodes = omega arith in
     record {
       table = ap (λ t. t.table_id) own ∙ c.give_hold-token.ensures.same_table ∙ c.pin_hold.ensures.table ∙ c.load_hold-found.ensures.table ∙ ap (λ (s : MasterState). s.table) c.self.view_is;
       key_is = ap (λ t. (caller_of t.me.0.view).key) own ∙ ap (λ (y : Seated). (caller_of y.0).key) c.give_hold-token.ensures.hold
           ∙ last_is c.args.self.now.view (master_view c.pin_hold.new.self) c.args.key c.requires same;
       node = ap (λ (l : List Node). slice_get l c.args.key.slot) (sym (ap (λ (s : MasterState). s.nodes) c.self.view_is))
-          ∙ get_there c.self.inside.nodes.items c.args.key.slot c.index-node.result.now within ∙ ap Some (sym c.index-node.ensures ∙ sym c.new.ensures.node);
+          ∙ get_there c.self.inside.nodes c.args.key.slot c.at-node.result within ∙ ap Some (sym c.at-node.ensures.known ∙ sym c.new.ensures.node);
       still = ap (λ t. (caller_of t.me.0.view).phase) own ∙ ap (λ (y : Seated). (caller_of y.0).phase) c.give_hold-token.ensures.hold;
       steps = ap (λ t. (caller_of t.me.0.view).steps) own ∙ ap (λ (y : Seated). (caller_of y.0).steps) c.give_hold-token.ensures.hold;
     }

@@ -1,11 +1,13 @@
 -- The search of a group of blocks, from one block to the next.
-use Rattle.std.proofs.Common.{◌≡◌, ℕ, ◌+◌, ◌*◌, ◌<◌, inl, inr, true, false, List, length, arith, sym, ap, ◌∙◌, subst}
+use Rattle.std.proofs.Common.{◌≡◌, ℕ, ◌+◌, ◌-◌, ◌*◌, ◌<◌, get_or, inl, inr, true, false, List, length, arith, sym, ap, ◌∙◌, subst}
 use Rattle.std.specs.Prelude.{Option, None}
+use Rattle.std.proofs.lemmas.Bool.{eqb-true}
+use Rattle.std.proofs.lemmas.Nat.Bits.{bit_at_ones}
 use Rattle.kf_core.specs.declared.slot.SlotState.{SlotState}
 use Rattle.kf_words.specs.declared.view.MasterView.{MasterView}
 use Rattle.kf_words.specs.Nodes.{is_unlinked, master_view}
 use Rattle.kf_words.specs.Searches.{SearchesOn}
-use Rattle.kf_words.proofs.Searching.{on_begins, on_over, on_then, in_full, marked_on, marked_group, or_before}
+use Rattle.kf_words.proofs.Searching.{on_begins, on_over, on_then, in_bits, in_full, marked_on, marked_group, or_before}
 use Rattle.kf_words.proofs.master_seat.MasterSeat.free_in_group.Goals.{then-all_full, else-all_full}
 use Rattle.kf_words.proofs.master_seat.MasterSeat.free_in_group.Goals as goal
 
@@ -16,7 +18,7 @@ returns-then-full_groups-group-clause-searched c =
     let from : ℕ = c.args.group * 8192 in
     on_over m from m from 8192
     (λ i low high. ap (λ (l : List SlotState). is_unlinked l i) (sym c.requires.slots)
-    ∙ in_full 8192 c.args.full_groups.now c.args.slots.now c.args.group i c.requires.marked.groups c.requires.group c.if-full_groups-group.true (omega arith))
+    ∙ in_full c.args.full_groups.now c.args.slots.now c.args.group i c.requires.marked.groups c.requires.group c.if-full_groups-group.true (omega arith))
     (on_begins m from)
 
 pub loop-block-preserved : goal.loop-block-preserved
@@ -37,11 +39,11 @@ loop-block-preserved c =
       history = c.free_in_block.ensures.history ∙ c.loop-block.invariant.history;
       same_slots = c.free_in_block.ensures.slots ∙ c.loop-block.invariant.same_slots;
       searching = subst (λ (n : ℕ). SearchesOn first from n None m') next (on_then first from m m' (block * 64) (block * 64 + 64) c.loop-block.invariant.searching passed);
-      marked = marked_on c.loop-block.full c.free_in_block.new.full c.args.full_groups.now slots c.loop-block.invariant.marked c.free_in_block.ensures.full c.free_in_block.auto.full;
+      marked = marked_on c.loop-block.full c.free_in_block.new.full c.args.full_groups.now slots c.loop-block.invariant.marked c.free_in_block.ensures.linked c.free_in_block.auto.full;
       seen = λ all i low high. elim c.if-all_full.branch [
         | then-all_full w ↦ elim (or_before i (block * 64)) [
           | inl h ↦ before w.if-all_full.true i low h
-          | inr h ↦ in_full 64 c.free_in_block.new.full slots block i c.free_in_block.ensures.full near (sym w.all_full-is ∙ all) (omega arith)
+          | inr h ↦ in_bits c.free_in_block.new.full slots block (i - block * 64) i 18446744073709551615 c.free_in_block.ensures.linked (eqb-true (get_or c.free_in_block.new.full block 0) 18446744073709551615 (sym w.all_full-is ∙ all)) (bit_at_ones 64 (i - block * 64) (omega (arith, h, high))) (omega (arith, h, high)) (omega (arith, h))
         ]
         | else-all_full w ↦ absurd (let y : true ≡ false = sym all ∙ w.all_full-is ∙ w.if-all_full.false in cc)
       ];

@@ -1,6 +1,6 @@
 use Rattle.std.proofs.Common.{[], rules}
 use Rattle.std.specs.Prelude.{Err}
-use Rattle.kf_files.specs.declared.ops.FileError.TheVariants.{Refused}
+use Rattle.kf_pages.specs.declared.ops.FileError.TheVariants.{Refused}
 use Rattle.kf_workers.proofs.board.WorkerBoard.answer_read.Goals as goal
 
 pub returns-in-Err : goal.returns-in-Err

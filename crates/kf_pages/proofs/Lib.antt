@@ -1,0 +1,4 @@
+mod Answering
+mod Visiting
+mod Writing
+mod Offsets
