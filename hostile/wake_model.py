@@ -320,9 +320,10 @@ NUMBERS = ({name: (Number(1, False, False, 0, 0), tuple(case)) for name, case in
            next_of_number, is_asleep_for_ever)
 
 
-def main():
+def try_all(*models):
+    """Tries each case of each model, where nobody may be stuck, and each variant, where somebody must be."""
     passed = failed = 0
-    for cases, variants, next_of, stuck_in in (WORDS, NUMBERS):
+    for cases, variants, next_of, stuck_in in models:
         for name, start in cases.items():
             states, stuck = search(start, None, next_of, stuck_in)
             print(f"{name}: {states} states, {'STUCK: ' + str(stuck) if stuck else 'nobody is stuck'}")
@@ -336,4 +337,4 @@ def main():
 
 
 if __name__ == "__main__":
-    main()
+    try_all(WORDS, NUMBERS)

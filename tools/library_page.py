@@ -25,7 +25,7 @@ TYPES = {"Brand", "RwLock", "Option", "Result", "Vec", "Global"}
 CALLS = {"Ok", "Err", "Some", "read", "write", "push", "join", "for_each_mut"}
 # Words in backticks that no library crate exports: of the language, of the kernel, and names that a program chooses.
 WORDS = {"requires", "run", "main", "const", "false", "is_visible", "sysfs_break_active_protection", "N", "A", "tree", "editor",
-         "alloc", "dir", "key", "name", "path", "bytes", "posts", "value", "serial", "delete"}
+         "alloc", "dir", "key", "name", "path", "bytes", "posts", "value", "serial", "delete", "registry", "caller", "f"}
 
 
 def text_of(page):
