@@ -52,4 +52,5 @@ pub mod Tokens
 pub mod Crossing
 pub mod Led
 pub mod OneStep
+pub mod Loaded
 pub mod Owners

@@ -20,7 +20,7 @@ use Rattle.kf_words.specs.Steps.{Seated, Sighted, plain, caller_of, after_try, a
 use Rattle.kf_words.specs.Callers.{CallerSight, caller_sight, IsAtRest, HasReference, IsInPhase}
 use Rattle.kf_words.specs.TableSteps.{Table, world, StepKind, tries, undoes, leaves, breaks, restores, looks, parts, hides, looks_hidden, shows, releases, sleeps, awakes, loads_sleepers, plus, minus, same, with_hide, Plays, CallerPlays, IsSeated, WordStep}
 use Rattle.kf_words.specs.History.{erased, Kept}
-use Rattle.kf_words.specs.Made.{WasLetInLive, WasMade, WasUndone, WasFound, LoadedSleepers, WakeSpent}
+use Rattle.kf_words.specs.Made.{WasLetInLive, WasMade, WasUndone, WasReleasedAt, WasFound, LoadedSleepers, WakeSpent}
 use Rattle.kf_words.proofs.Seating.{caller_seat}
 use Rattle.kf_words.proofs.WordSteps.{word_step, world_is, at_seat, in_world}
 use Rattle.kf_words.proofs.Runs.{let_in_live}
@@ -175,6 +175,19 @@ module _ (o : Opening) (homes id : ℕ) (me : Sighted) (i : ℕ) (is : plain me 
   pub release_made : may_release on_c.phase ≡ true → on_c.undo_due ≡ false → Allows (Kept o) homes id me i (minus 1) (MadeAt hold_index i me releases (CallerBecomes after_release no_step (plain me)))
   release_made idles settled = step_made o homes id me i is hold_index its releases (λ j. refl) (minus 1) after_release (CallerBecomes after_release no_step (plain me))
       (λ t h far at small. refl) (λ t t' j p. (on_c, (idles, settled), p))
+
+  -- the same, if the most holds of a slot are named
+  pub release_of_made : may_release on_c.phase ≡ true → on_c.undo_due ≡ false → (most : ℕ) → most ≡ o.holds
+      → Allows (Kept o) homes id me i (minus 1) (λ n me'. (i ≡ hold_index on_c.key.slot)
+      × (CallerBecomes after_release no_step (plain me) n (plain me') × WasReleasedAt (caller_sight me.0) (caller_sight me'.0) n) × (most ≡ me.0.seen.opening.holds))
+  release_of_made idles settled most named t h far at small =
+      let told : ℕ → Seated → Type 0 = CallerBecomes after_release no_step (plain me) in
+      let here : ℕ = hold_index on_c.key.slot in
+      let Told : ℕ → Sighted → Type 0 = λ n me'. told n (plain me') × WasReleasedAt (caller_sight me.0) (caller_sight me'.0) n in
+      let made : Allows (Kept o) homes id me i (minus 1) Told = subst (λ (k : ℕ). Allows (Kept o) homes id me k (minus 1) Told) its
+      (finding o homes id me here is releases (λ j. refl) (minus 1) after_release told (λ t h far at small. refl) (λ t t' j p. (on_c, (idles, settled), p))) in
+      let r = made t h far at small in
+      (r.0, r.1, r.2, r.3, (sym its, r.4, named ∙ ap (λ (x : Opening). x.holds) (sym (h.seen id me.0 at).0)))
 
 -- a step on the count of its slot's sleepers
 module _ (o : Opening) (homes id : ℕ) (me : Sighted) (i : ℕ) (is : plain me ≡ (seat.Caller (caller_of me.0.view), [])) (its : sleepers_index (caller_of me.0.view).key.slot ≡ i) where

@@ -107,6 +107,14 @@ has_linked word = (word / linked) % 2 == 1
 abbrev pub holds_in : ℕ → ℕ
 holds_in word = word % linked
 
+-- the number of users in this active word
+abbrev pub users_in : ℕ → ℕ
+users_in word = word % bias
+
+-- the slot of this hold word has as many holds as there may be
+abbrev pub is_full : ℕ → ℕ → Bool
+is_full limit word = holds_in word == limit
+
 -- no node is linked, nobody holds the slot, and a generation is left
 abbrev pub IsFree : ℕ → Type 0
 IsFree word = (word % one_generation ≡ 0) × (word / one_generation < 4294967295)

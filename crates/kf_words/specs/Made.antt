@@ -6,10 +6,11 @@ use Rattle.atomic_table.specs.Table.{Step}
 use Rattle.kf_core.specs.declared.key.Node.{Node}
 use Rattle.kf_core.specs.Bare.{is_live}
 use mathlib.Core.List.{IsPrefix}
+use Rattle.kf_words.specs.declared.counts.Counts.{Counts}
 use Rattle.kf_words.specs.declared.note.Note.{Note}
 use Rattle.kf_words.specs.declared.sight.Seen.{Seen}
 use Rattle.kf_words.specs.declared.view.View.TheVariants as seat
-use Rattle.kf_words.specs.Layout.{active_index, hold_index, sleepers_index, node_index, place_of, slot_of, last_user_wakes, wants_wake}
+use Rattle.kf_words.specs.Layout.{active_index, hold_index, sleepers_index, node_index, place_of, slot_of, hold_word, active_word, holds_in, users_in, is_full, last_user_wakes, wants_wake}
 use Rattle.kf_words.specs.Rule.{Shown}
 use Rattle.kf_words.specs.Steps.{Seated, Sighted, plain, caller_of, after_try, after_undo, after_leave, after_break, after_restore, after_look, after_part, after_hide, after_look_hidden, after_release, after_miss, after_count, after_share, unmoved, kept, CallerBecomes, MasterBecomes, ShowsKey}
 use Rattle.kf_words.specs.declared.view.CallerView.{CallerView}
@@ -187,6 +188,25 @@ MakesRelease = Makes hold_index releases (CallerBecomes after_release)
 abbrev pub WasARelease : CallerSight → CallerSight → Type 0
 WasARelease = WasMade releases
 
+-- this seat gave its hold back, by a step that found this hold word in its slot
+abbrev pub WasReleasedAt : CallerSight → CallerSight → ℕ → Type 0
+WasReleasedAt before after found = (made : WasARelease before after)
+    × (hold_word made.found.words before.view.key.slot ≡ found)
+
+-- what the same step says if the most holds of a slot are named: with the view also the hold word that it
+-- found, and that this number is the most holds of a slot there
+abbrev pub MakesReleaseOf : ℕ → Step (Unit {0}) → Sighted → ℕ → Sighted → Type 0
+MakesReleaseOf most st me found me' = (st.word ≡ hold_index (caller_of me.0.view).key.slot)
+    × (CallerBecomes after_release st (plain me) found (plain me')
+    × WasReleasedAt (caller_sight me.0) (caller_sight me'.0) found)
+    × (most ≡ me.0.seen.opening.holds)
+
+-- a seat gave its hold back by one step, and this says whether the step found as many holds in its slot as
+-- there may be
+abbrev pub GavePlaceBack : CallerSight → Bool → Type 0
+GavePlaceBack before full = (after : CallerSight) × (found : ℕ) × WasReleasedAt before after found
+    × (full ≡ is_full before.seen.opening.holds found)
+
 -- as WasMade: this seat made a step on the hold word that counted nothing between these two sights of it
 abbrev pub WasAMiss : CallerSight → CallerSight → Type 0
 WasAMiss = WasMade sees_holds
@@ -349,6 +369,14 @@ pub record WasCounted (slot : ℕ) (before : MasterSight) (seat after : Seen) : 
   pub pin : WasMadeByMaster (pins_hold slot) loaded counted
   pub told : seat ≡ counted.seen
   pub same : after ≡ counted.seen
+
+-- one load of a slot's hold word found this many holds, and then one of its active word this many users
+pub record WereLoaded (slot : ℕ) (counts : Counts) (before after : MasterSight) : Type 0 where
+  pub loaded : MasterSight
+  pub load : WasMadeByMaster (loads_hold slot) before loaded
+  pub look : WasMadeByMaster (looks_over slot) loaded after
+  pub holds_are : counts.holds ≡ holds_in (hold_word load.found.words slot)
+  pub users_are : counts.users ≡ users_in (active_word look.found.words slot)
 
 -- what a word of a node that is put says: which of them, and the number
 abbrev pub PutsNodeWord : Step (Unit {0}) → Sighted → ℕ → Sighted → Type 0

@@ -6,7 +6,7 @@ ghost use Rattle.kf_words.specs.Another.{StaysAs, IsAnother, WasCountedFor, Anot
 ghost use Rattle.kf_words.specs.Pins.{IsHoldOf, WasHeldFor, IsRefused, HasSlotOf};
 ghost use Rattle.kf_words.specs.TableSteps.{sees_holds};
 ghost use Rattle.kf_core.specs.declared.refusal.Refusal.TheVariants as refusal_of;
-ghost use Rattle.kf_words.specs.Made.{FoundThere, WasATry, WasATryUndoneThenWake, WasALook, WasAHide, WasLetInLive};
+ghost use Rattle.kf_words.specs.Made.{FoundThere, WasATry, WasATryUndoneThenWake, WasALook, WasAHide, WasLetInLive, GavePlaceBack};
 
 use crate::call::Call;
 use crate::hiding::Hiding;
@@ -159,10 +159,20 @@ impl Hold {
     }
 
     /// Gives its hold of the slot back (`kernfs_put`), in one word step. Nothing is left of it that a clause
-    /// could speak of.
+    /// could speak of: `release_place` says what the step found.
     pub fn release(self) {
+        self.release_place();
+    }
+
+    /// As `release`, and returns whether the slot had as many holds until then as there may be. If so, a
+    /// caller that was refused a hold as one too many may have been waiting for this place.
+    pub fn release_place(self) -> bool
+        ensures { GavePlaceBack (seat_view self) result }
+    {
         let Hold { mut seat } = self;
-        release_seat(&mut seat);
+        let found = release_seat(&mut seat);
+        let was_full = seat.is_full(found);
         seat.end();
+        was_full
     }
 }

@@ -1,7 +1,7 @@
 //! The places of a slot's words, the numbers that make up active words and hold words, and the tests on a
 //! word that was found.
 ghost use Rattle.std.specs.Prelude.{◌≡◌, ◌<◌, ◌+◌, ◌-◌, ◌↔◌, IsTrue};
-ghost use Rattle.kf_words.specs.Layout.{active_index, hold_index, sleepers_index, node_index, keeps_out, has_bias, has_doom, has_hide, is_drained, is_unused, last_user_wakes, wants_wake, has_linked, bit, bias, doom, IsFree, HasRoom, HasSpare};
+ghost use Rattle.kf_words.specs.Layout.{active_index, hold_index, sleepers_index, node_index, keeps_out, has_bias, has_doom, has_hide, is_drained, is_unused, last_user_wakes, wants_wake, has_linked, bit, bias, doom, holds_in, users_in, is_full, IsFree, HasRoom, HasSpare};
 
 use kf_core::NodeFlags;
 
@@ -148,6 +148,27 @@ pub(crate) fn has_room(word: u64, limit: u32) -> bool
     ensures { IsTrue result ↔ HasRoom limit word }
 {
     word & HOLDS < limit as u64
+}
+
+/// Whether the slot of this hold word has as many holds as there may be.
+pub(crate) fn is_full(word: u64, limit: u32) -> bool
+    ensures { result ≡ is_full limit word }
+{
+    word & HOLDS == limit as u64
+}
+
+/// The number of holds in a hold word.
+pub(crate) fn holds_in(word: u64) -> u32
+    ensures { result ≡ holds_in word }
+{
+    (word & HOLDS) as u32
+}
+
+/// The number of users in an active word.
+pub(crate) fn users_in(word: u64) -> u32
+    ensures { result ≡ users_in word }
+{
+    (word & USERS) as u32
 }
 
 /// Whether the slot of this hold word can have one hold more, and has room then for one of the Master's.

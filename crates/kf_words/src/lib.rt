@@ -16,6 +16,7 @@
 
 mod blocks;
 mod call;
+mod counts;
 mod drain;
 mod hiding;
 mod hold;
@@ -44,6 +45,7 @@ mod wake_due;
 mod words;
 
 pub use call::Call;
+pub use counts::Counts;
 pub use drain::{try_drained, wait_drained};
 pub use hiding::{Hidden, Hiding, wait_hidden};
 pub use hold::Hold;

@@ -2,7 +2,7 @@
 use crate::note::Said;
 use crate::sight::Sight;
 use atomic_table::{Play, Split};
-use std::marker::PhantomData;
+use std::marker::{Brand, PhantomData};
 
 /// A caller counts itself in the active word.
 pub(crate) struct Tries;
@@ -101,6 +101,28 @@ impl Play<(), Sight> for Releases {
     ghost use Rattle.kf_words.specs.Made.{MakesRelease};
 
     ghost then = { MakesRelease };
+}
+
+/// The most holds of a slot, which a call picks.
+pub(crate) trait Most {
+    ghost use Rattle.std.specs.Prelude.{ℕ};
+
+    ghost most: { ℕ };
+}
+
+impl Most for Brand {
+    ghost most = { 0 };
+}
+
+/// A caller gives its slot back, and names the most holds of a slot.
+pub(crate) struct ReleasesOf<E: Most> {
+    of: PhantomData<E>,
+}
+
+impl<E: Most> Play<(), Sight> for ReleasesOf<E> {
+    ghost use Rattle.kf_words.specs.Made.{MakesReleaseOf};
+
+    ghost then = { MakesReleaseOf E.most };
 }
 
 /// A caller loads the hold word, and names the most holds of a slot.

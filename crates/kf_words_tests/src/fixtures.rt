@@ -7,7 +7,12 @@ use std::process::Abort;
 
 /// The Master of two slots, each with place for 16 holds.
 pub(crate) fn made<R: Abort>(rt: &R, alloc: Global) -> Master {
-    let Some(limits) = Limits::new(2, 16) else {
+    made_for(rt, alloc, 16)
+}
+
+/// The Master of two slots, each with place for this many holds.
+pub(crate) fn made_for<R: Abort>(rt: &R, alloc: Global, holds: u32) -> Master {
+    let Some(limits) = Limits::new(2, holds) else {
         panic!(rt; "no such limits")
     };
     match Words::new(alloc, limits) {
@@ -115,5 +120,16 @@ pub(crate) fn see_drained_at_once<R: Abort>(rt: &R, hold: Hold) {
             back.release();
             panic!(rt; "a drained node looked used")
         }
+    }
+}
+
+/// The words of a node have this many holds and users.
+pub(crate) fn counted<R: Abort>(rt: &R, master: &mut Master, key: Key, holds: u32, users: u32) {
+    match master.counts(key) {
+        Some(counts) => {
+            assert_eq!(rt; counts.holds, holds);
+            assert_eq!(rt; counts.users, users);
+        }
+        None => panic!(rt; "not linked"),
     }
 }

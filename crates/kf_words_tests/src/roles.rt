@@ -191,6 +191,19 @@ fn they_sleep<R: Clock + CpuClock>(rt: &R) -> bool {
     }
 }
 
+/// Ends a call, whatever its phase is, and returns its hold.
+pub(crate) fn leave(mut call: Call) -> Hold {
+    match call.phase() {
+        Phase::Running => call.leave(),
+        Phase::Broken => {
+            call.restore();
+            call.leave()
+        }
+        Phase::Restored => call.leave(),
+        _ => unreachable!(),
+    }
+}
+
 /// Ends the call. If `breaks` is set it breaks its protection first, and returns whether this many came
 /// through before it ends.
 pub(crate) fn end_call<R: Clock>(

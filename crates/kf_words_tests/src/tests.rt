@@ -1,9 +1,11 @@
 //! Those who wait for a drain, or until nobody uses a hidden key, among calls, tries and hiders in threads.
 
 use crate::fixtures::{
-    activate, born, doom, enter, hide, made, pin, see_drained_at_once, see_used,
+    activate, born, counted, doom, enter, hide, made, made_for, pin, see_drained_at_once, see_used,
 };
-use crate::roles::{Counts, Course, Ending, Mark, Role, TOKENS, act_in, end_call, give_back};
+use crate::roles::{
+    Counts, Course, Ending, Mark, Role, TOKENS, act_in, end_call, give_back, leave,
+};
 use kf_core::Key;
 use kf_words::Master;
 use std::alloc::Global;
@@ -236,4 +238,28 @@ fn one_look_sees_whether_a_node_is_in_use(rt: HostRuntime) {
     let remover = see_used(&rt, remover);
     end_call(&rt, call, false, 0, &AtomicU64::new(0));
     see_drained_at_once(&rt, remover);
+}
+
+#[test]
+fn a_release_says_whether_it_had_the_last_place(rt: HostRuntime) {
+    let mut master = made_for(&rt, rt.alloc(), 3);
+    let key = born(&rt, &mut master);
+    activate(&rt, &mut master, key);
+    let one = pin(&rt, &mut master, key);
+    let two = pin(&rt, &mut master, key);
+    let three = pin(&rt, &mut master, key);
+    let call = enter(&rt, three);
+    counted(&rt, &mut master, key, 3, 1);
+    assert!(&rt; two.release_place());
+    counted(&rt, &mut master, key, 2, 1);
+    assert!(&rt; !one.release_place());
+    let hold = leave(call);
+    counted(&rt, &mut master, key, 1, 0);
+    assert!(&rt; !hold.release_place());
+    counted(&rt, &mut master, key, 0, 0);
+    let gone = Key {
+        slot: key.slot,
+        generation: key.generation.wrapping_add(1),
+    };
+    assert!(&rt; master.counts(gone).is_none());
 }

@@ -15,8 +15,8 @@
 //! The count is in a third word, to which no birth stores: a sleeper holds the slot. (1), (3), (4) and
 //! the step that takes a sleeper off the count are steps of the one run. Clauses name them in this order
 //! (`WasAsleep`, `WasMadeThenWake`), and the law `sleepers_are_found` says that (4) finds a sleeper. It is
-//! not proved that the number found decides, and no clause sees the kernel's queue. `.ci/unseen_steps` says
-//! which loads may be unseen by the rule, and `hostile/wake_model.py` tries each order of these
+//! not proved that the number found decides, and no clause sees the kernel's queue. `tools/unseen_steps` says
+//! which loads may be unseen by the rule, and `tests/models/wake.py` tries each order of these
 //! steps.
 ghost use Rattle.std.specs.Prelude.{◌≡◌, ◌<◌, ℕ};
 ghost use Rattle.std.specs.Arc.{arc_value};

@@ -5,15 +5,17 @@ ghost use Rattle.kf_core.specs.Phases.{may_release};
 ghost use Rattle.kf_core.specs.declared.caller.Phase.TheVariants as phase_of;
 ghost use Rattle.kf_words.specs.Steps.{after_try, after_undo, after_leave, after_break, after_restore, after_look, after_part, after_hide, after_look_hidden, after_show};
 ghost use Rattle.kf_words.specs.Callers.{IsSameSeat, IsAtRest, HasReference, IsInPhase, WasReleased, handle_of, owed, sight_of, view_of};
-ghost use Rattle.kf_words.specs.Layout.{active_index, hold_index, has_hide};
-ghost use Rattle.kf_words.specs.Made.{WasATry, WasUndone, WasALeave, WasABreak, WasARestore, WasALook, WasAPart, WasAHide, WasALookHidden, WasAShow, WasARelease};
+ghost use Rattle.kf_words.specs.Layout.{active_index, hold_index, has_hide, is_full};
+ghost use Rattle.kf_words.specs.Made.{WasATry, WasUndone, WasALeave, WasABreak, WasARestore, WasALook, WasAPart, WasAHide, WasALookHidden, WasAShow, WasReleasedAt};
 
-use crate::layout::{HIDE, active_index, hold_index};
+use crate::layout::{HIDE, active_index, hold_index, is_full};
 use crate::plays::{
-    Breaks, Hides, Leaves, Looks, LooksHidden, Parts, Releases, Restores, Shows, Tries, Undoes,
+    Breaks, Hides, Leaves, Looks, LooksHidden, Most, Parts, ReleasesOf, Restores, Shows, Tries,
+    Undoes,
 };
 use crate::seat::CallerSeat;
 use crate::wake_due::WakeDue;
+use std::marker::Brand;
 
 impl CallerSeat {
     /// The index of its slot's active word in the table.
@@ -166,6 +168,30 @@ impl CallerSeat {
         let word = self.hold_index();
         self.table.shared.load::<Parts>(&mut self.token, word)
     }
+
+    /// Whether this hold word has as many holds as there may be.
+    pub(crate) fn is_full(&self, word: u64) -> bool
+        ensures { result ≡ is_full self.now.most word }
+    {
+        is_full(word, self.most)
+    }
+}
+
+/// Gives a seat's hold of its slot back, and names the most holds of a slot.
+fn release_of<E: Most>(seat: &mut CallerSeat) -> u64
+    requires idle { may_release (handle_of seat.old).phase ≡ true }
+    requires settled { (handle_of seat.old).undo_due ≡ false }
+    requires picked { E.most ≡ seat.old.most }
+    ensures same { IsSameSeat (handle_of seat.old) (handle_of seat.new) }
+    ensures released { WasReleased (handle_of seat.old) (handle_of seat.new) }
+    ensures made { WasReleasedAt (sight_of seat.old) (sight_of seat.new) result }
+    ensures most { seat.new.most ≡ seat.old.most }
+    ensures limit { seat.old.most ≡ (handle_of seat.old).seen.opening.holds }
+{
+    let word = seat.hold_index();
+    seat.table
+        .shared
+        .fetch_sub::<ReleasesOf<E>>(&mut seat.token, word, 1)
 }
 
 /// Gives a seat's hold of its slot back, which is one word step, and returns the hold word that it found. The
@@ -175,11 +201,9 @@ pub fn release_seat(seat: &mut CallerSeat) -> u64
     requires settled { (handle_of seat.old).undo_due ≡ false }
     ensures same { IsSameSeat (handle_of seat.old) (handle_of seat.new) }
     ensures released { WasReleased (handle_of seat.old) (handle_of seat.new) }
-    ensures made { WasARelease (sight_of seat.old) (sight_of seat.new) }
-    ensures found { result ≡ (handle_of seat.new).found }
+    ensures made { WasReleasedAt (sight_of seat.old) (sight_of seat.new) result }
+    ensures most { seat.new.most ≡ seat.old.most }
+    ensures limit { seat.old.most ≡ (handle_of seat.old).seen.opening.holds }
 {
-    let word = seat.hold_index();
-    seat.table
-        .shared
-        .fetch_sub::<Releases>(&mut seat.token, word, 1)
+    release_of::<Brand>(seat)
 }
