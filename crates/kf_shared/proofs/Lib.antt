@@ -13,6 +13,10 @@ pub mod Receipts
 pub mod Removed
 pub mod Turns
 pub mod Finishing
+pub mod Each
+pub mod Stepped
+pub mod NextTurns
+pub mod Finished
 pub mod Alone
 pub mod Refusals
 pub mod KeyRefusals
@@ -21,3 +25,4 @@ pub mod Opening
 pub mod Gone
 pub mod Running
 pub mod Finding
+mod Renamed

@@ -1,5 +1,5 @@
 -- What the receipts of a removal have seen of its doom, and of the unlinks.
-use Rattle.std.proofs.Common.{◌≡◌, Bool, true, false, inl, inr, List, [], ◌∷◌, ◌++◌, refl, sym, ap, ◌∙◌, subst}
+use Rattle.std.proofs.Common.{◌≡◌, Bool, true, false, List, [], ◌∷◌, ◌++◌, refl, sym, ap, ◌∙◌, subst}
 use Rattle.std.specs.Prelude.{MatchBool, Result, Ok, Err, IfOk}
 use Rattle.std.proofs.lemmas.List.{append-nil, append_assoc, same_from_push}
 use mathlib.Core.List.{IsPrefix}
@@ -16,10 +16,11 @@ use Rattle.kf_shared.specs.Locked.{Locked, Adds, IsWhole, history}
 use Rattle.kf_shared.specs.Noted.{tree_in}
 use Rattle.kf_shared.specs.Removal.{keys_of, AreHolds, DoomHolds, DoomNoted, CameAfter}
 use Rattle.kf_shared.specs.Receipts.{EndsAt, IsDoomList, owners_of}
-use Rattle.kf_shared.specs.Sections.{IsTaken, SawItsRemoval, SawMore, WasAdded, WasDone, WasEnded, WasFinished, WasRemoved, WasRemovedIn, AllEnded, AllFinished, AreFinished, Last, doom_note, unlink_note, unlinks_of, note_where}
+use Rattle.kf_shared.specs.Sections.{IsTaken, SawItsRemoval, SawMore, WasAdded, WasDone, WasEnded, WasFinished, WasRemoved, WasRemovedIn, AllEnded, Last, doom_note, unlink_note, unlinks_of, note_where}
+use Rattle.kf_shared.proofs.Finished.{last_ended}
 use Rattle.kf_shared.proofs.Notes.{tree_told}
 use Rattle.kf_shared.proofs.Receipts.{receipts_end, receipts_listed, same_owner_keys}
-use Rattle.kf_shared.proofs.Hearing.{prefix_self, prefix_trans, more_told}
+use Rattle.kf_shared.proofs.Hearing.{prefix_trans, more_told}
 
 -- seen by another who had seen as much before, and has seen as much since
 pub added_on : (before mid after last : Handle) (found added : List Note) → SawMore before.seen mid.seen → SawMore after.seen last.seen → WasAdded mid.seen after.seen found added → WasAdded before.seen last.seen found added
@@ -35,22 +36,6 @@ finished_on before mid after last is first more w =
   where
     WasFinished' : Type 0
     WasFinished' = (found : List Note) × WasDone before.seen last.seen found (unlink_note (tree_in found) mid.key)
-
--- one hold more is finished
-pub one_finished : (holds receipts : List Handle) (hold receipt : Handle) → AllFinished holds receipts → SawMore hold.seen receipt.seen → WasFinished hold receipt → AllFinished (holds ++ hold ∷ []) (receipts ++ receipt ∷ [])
-one_finished [] [] hold receipt all more one = ((more, one), tt)
-one_finished [] (r ∷ receipts) hold receipt all more one = absurd all
-one_finished (h ∷ holds) [] hold receipt all more one = absurd all
-one_finished (h ∷ holds) (r ∷ receipts) hold receipt all more one = (all.0, one_finished holds receipts hold receipt all.1 more one)
-
--- the last receipt is of the last hold, and has seen what that had
-pub last_ended : (front receipts : List Handle) (hold : Handle) → AllEnded (front ++ hold ∷ []) receipts → Last (λ receipt. SawMore hold.seen receipt.seen) receipts
-last_ended [] [] hold all = absurd all
-last_ended [] (r ∷ []) hold all = ([], r, refl, elim all.0 [ inl same ↦ subst (λ (h : Handle). SawMore hold.seen h.seen) (sym same) (prefix_self hold.seen.steps) | inr more ↦ more.0 ])
-last_ended [] (r ∷ s ∷ receipts) hold all = absurd all.1
-last_ended (h ∷ front) [] hold all = absurd all
-last_ended (h ∷ front) (r ∷ receipts) hold all =
-    (let rest = last_ended front receipts hold all.1 in (r ∷ rest.0, rest.1, ap (λ l. r ∷ l) rest.2, rest.3))
 
 pub keys_ended : (old : Locked) (before after : List Handle) → WasEnded old before after → keys_of after ≡ keys_of before
 keys_ended old before after e = same_owner_keys after before e.owners
@@ -140,19 +125,6 @@ was_removed table old hold receipts whole taken l listed =
         subst (λ t. IsDoomList t hold.key (keys_of receipts)) tree listed,
       ),
     )
-
--- one hold more of the list is finished
-pub next_made : (before all done rest rest' receipts receipts' : List Handle) (hold receipt : Handle) → all ≡ done ++ rest → rest ≡ hold ∷ rest' → receipts' ≡ receipts ++ receipt ∷ []
-    → AreFinished before done receipts → SawMore hold.seen receipt.seen → WasFinished hold receipt → (done' : List Handle) × (all ≡ done' ++ rest') × AreFinished before done' receipts'
-next_made before all done rest rest' receipts receipts' hold receipt e next push f more one = (
-  done ++ hold ∷ [],
-  e ∙ ap (λ l. done ++ l) next ∙ sym (append_assoc done (hold ∷ []) rest'),
-  (f.0 ++ receipt ∷ [], push ∙ ap (λ l. l ++ receipt ∷ []) f.1 ∙ append_assoc before f.0 (receipt ∷ []), one_finished done f.0 hold receipt f.2 more one),
-)
-
--- all are, if there was no receipt before
-pub all_made : (before holds receipts : List Handle) → before ≡ [] → AreFinished before holds receipts → AllFinished holds receipts
-all_made before holds receipts none f = subst (AllFinished holds) (sym (f.1 ∙ ap (λ l. l ++ f.0) none ∙ (let r : [] ++ f.0 ≡ f.0 = refl in r))) f.2
 
 pub removed_in : {X E : Type 0} (table : TableId) (old : Locked) (hold : Handle) (items : X → List Handle) (r : Result X E) → IsWhole table old → IsTaken (history old)
     → IfOk r (λ x. Last (WasRemovedIn (history old) old.state.tree hold (keys_of (items x))) (items x)) → IfOk r (λ x. IsDoomList old.state.tree hold.key (keys_of (items x)))

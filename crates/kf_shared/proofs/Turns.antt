@@ -12,7 +12,7 @@ use Rattle.kf_words.specs.Notes.{history_of}
 use Rattle.kf_shared.specs.Locked.{Locked, Adds, history}
 use Rattle.kf_shared.specs.Receipts.{AreOf, Owner, owner, owners_of}
 use Rattle.kf_shared.specs.Removal.{keys_of}
-use Rattle.kf_shared.specs.Sections.{AllEnded, AllFinished, AreFinished, HasMet, SawMore, WasEnded, WasFinished, unlinks_of}
+use Rattle.kf_shared.specs.Sections.{HasMet, WasEnded, unlinks_of}
 use Rattle.kf_shared.proofs.Receipts.{keys_more, owners_more, same_owner_keys}
 
 -- what has the same owners is of the same table
@@ -115,30 +115,3 @@ ended_turn old mid cut shut seen last_seen removing holds rest ended gone first 
   where
     as_before : owners_of rest ≡ owners_of removing
     as_before = owners ∙ met_owners (history old) seen removing holds first
-
--- each that is finished has ended, and so have receipts that were there
-all_ended : (holds receipts : List Handle) → AllFinished holds receipts → AllEnded holds receipts
-all_ended [] [] all = tt
-all_ended [] (r ∷ receipts) all = absurd all
-all_ended (h ∷ holds) [] all = absurd all
-all_ended (h ∷ holds) (r ∷ receipts) all = (inr all.0, all_ended holds receipts all.1)
-
-ended_behind : (before holds receipts : List Handle) → AllEnded holds receipts → AllEnded (before ++ holds) (before ++ receipts)
-ended_behind [] holds receipts all = all
-ended_behind (b ∷ before) holds receipts all = (inl refl, ended_behind before holds receipts all)
-
-pub ended_rest : (before holds receipts : List Handle) → AreFinished before holds receipts → AllEnded (before ++ holds) receipts
-ended_rest before holds receipts f = subst (AllEnded (before ++ holds)) (sym f.1) (ended_behind before holds f.0 (all_ended holds f.0 f.2))
-
--- one was seen drained before
-pub ended_drained : (before new holds receipts : List Handle) (drained receipt : Handle) → new ≡ before ++ receipt ∷ [] → SawMore drained.seen receipt.seen → WasFinished drained receipt → AreFinished new holds receipts
-    → AllEnded (before ++ drained ∷ holds) receipts
-ended_drained before new holds receipts drained receipt push more finished f =
-    subst (AllEnded (before ++ drained ∷ holds)) (sym (f.1 ∙ ap (λ l. l ++ f.0) push ∙ append_assoc before (receipt ∷ []) f.0))
-    (ended_behind before (drained ∷ holds) (receipt ∷ f.0) (inr (more, finished), all_ended holds f.0 f.2))
-
-pub owners_drained : (before new holds receipts : List Handle) (drained receipt : Handle) → new ≡ before ++ receipt ∷ [] → owner receipt ≡ owner drained → owners_of receipts ≡ owners_of new ++ owners_of holds
-    → owners_of receipts ≡ owners_of (before ++ drained ∷ holds)
-owners_drained before new holds receipts drained receipt push same e =
-    e ∙ ap (λ l. owners_of l ++ owners_of holds) push ∙ ap (λ l. l ++ owners_of holds) (owners_more before (receipt ∷ [])) ∙ append_assoc (owners_of before) (owner receipt ∷ []) (owners_of holds)
-    ∙ ap (λ o. owners_of before ++ o ∷ owners_of holds) same ∙ sym (owners_more before (drained ∷ holds))

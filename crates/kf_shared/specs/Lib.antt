@@ -7,3 +7,4 @@ pub mod Hiding
 pub mod Sections
 pub mod Running
 pub mod Finding
+pub mod Lending

@@ -1,6 +1,6 @@
 -- What was done between two borders of the history, as it says it to those that saw it. A border is noted
 -- when the lock was taken, and again before it is unlocked.
-use Rattle.std.specs.Prelude.{◌≡◌, ◌⊎◌, ℕ, zero, suc, Bool, true, false, not, None, ⊤, List, [], ◌∷◌, ◌++◌, length, map}
+use Rattle.std.specs.Prelude.{◌≡◌, ◌≤◌, ◌⊎◌, ℕ, zero, suc, Bool, true, false, not, None, ⊤, List, [], ◌∷◌, ◌++◌, length, map, All}
 use mathlib.Core.List.{IsPrefix}
 use Rattle.kf_core.specs.declared.key.Key.{Key}
 use Rattle.kf_core.specs.declared.command.Command.TheVariants.{Doom, Unlink, Hide, Show}
@@ -9,9 +9,9 @@ use Rattle.kf_words.specs.declared.note.Note.{Note}
 use Rattle.kf_words.specs.declared.note.Note.TheVariants.{Did, Claimed, Border}
 use Rattle.kf_words.specs.declared.sight.Seen.{Seen}
 use Rattle.kf_words.specs.declared.sight.StepKind.{StepKind}
-use Rattle.kf_words.specs.declared.sight.StepKind.TheVariants.{Parts as parts}
+use Rattle.kf_words.specs.declared.sight.StepKind.TheVariants.{Looks as looks, Parts as parts}
 use Rattle.kf_words.specs.Notes.{history_of}
-use Rattle.kf_words.specs.Callers.{Handle, CallerSight, having_seen}
+use Rattle.kf_words.specs.Callers.{Handle, CallerSight, IsSameSeat, having_seen, seat_view}
 use Rattle.kf_tree.specs.Causes.{hidden_in}
 use Rattle.kf_words.specs.Made.{Rested, WasMade, WasAHide, WasARestore, WaitedForDrain, WaitedForHidden}
 use Rattle.kf_shared.specs.Hiding.{hold_cause}
@@ -156,22 +156,153 @@ abbrev pub WasFinished : Handle → Handle → Type 0
 WasFinished hold receipt = (found : List Note)
     × WasDone hold.seen receipt.seen found (unlink_note (tree_in found) hold.key)
 
--- one receipt for each hold, in their order: each has seen what its hold had seen, and the unlink
-abbrev pub AllFinished : List Handle → List Handle → Type 0
-AllFinished [] [] = ⊤
-AllFinished [] (receipt ∷ receipts) = ⊥
-AllFinished (hold ∷ holds) [] = ⊥
-AllFinished (hold ∷ holds) (receipt ∷ receipts) =
-    (SawMore hold.seen receipt.seen × WasFinished hold receipt) × AllFinished holds receipts
+-- this holds of each of the first and of the one in its place in the second, and both are as many
+abbrev pub Each : (Handle → Handle → Type 0) → List Handle → List Handle → Type 0
+Each Such [] [] = ⊤
+Each Such [] (after ∷ afters) = ⊥
+Each Such (before ∷ befores) [] = ⊥
+Each Such (before ∷ befores) (after ∷ afters) = Such before after × Each Such befores afters
 
--- one receipt for each node of a removal, in their order: it was there before, or it has seen what the hold
--- had seen, and the unlink
+-- this many times it did this; before, between and after that it learned what others had done
+abbrev pub DidTold : (CallerSight → CallerSight → Type 0) → ℕ → CallerSight → CallerSight → Type 0
+DidTold Step zero before after = WasTold before after
+DidTold Step (suc count) before after = (told : CallerSight) × (done : CallerSight)
+    × DidTold Step count before told × Step told done × WasTold done after
+
+-- a look: whether the node is in use, or whether it has left the tree
+abbrev pub Looked : CallerSight → CallerSight → Type 0
+Looked before after = WasMade looks before after ⊎ WasMade parts before after
+
+-- all the steps of a seat between these two sights are looks: so it waited for nobody
+abbrev pub OnlyLooked : CallerSight → CallerSight → Type 0
+OnlyLooked before after = (count : ℕ) × DidTold Looked count before after
+
+-- all its steps are looks and rests
+abbrev pub LookedAndWaited : CallerSight → CallerSight → Type 0
+LookedAndWaited before after =
+    (count : ℕ) × DidTold (λ x y. Looked x y ⊎ ((counted : Bool) × Rested counted x y)) count before after
+
+-- it waited only once it had learned that this history had come
+abbrev pub WaitedAfter : List Note → CallerSight → CallerSight → Type 0
+WaitedAfter past before after = (told : CallerSight) × OnlyLooked before told
+    × IsPrefix past (history_of told.seen) × LookedAndWaited told after
+
+-- one turn of the lock, in which a removal unlinks the first of its nodes that are left: the history when the
+-- lock was taken, the keys whose unlinks came next, the holds of the nodes, and the receipts of these holds
+pub record Turn : Type 0 where
+  pub found : List Note
+  pub gone : List Key
+  pub holds : List Handle
+  pub receipts : List Handle
+
+-- this history, and then the unlink of this key, if it is linked
+abbrev pub unlinked : List Note → Key → List Note
+unlinked notes key = notes ++ unlink_note (tree_in notes) key
+
+-- the same of these keys, one after the other
+abbrev pub unlinked_each : List Note → List Key → List Note
+unlinked_each notes [] = notes
+unlinked_each notes (key ∷ keys) = unlinked_each (unlinked notes key) keys
+
+-- the history up to the border that ends the turn
+abbrev pub turn_end : Turn → List Note
+turn_end turn = unlinked_each turn.found turn.gone ++ Border ∷ []
+
+-- what each of these holds had seen came before the unlink of its node. From this history on they are
+-- unlinked one after the other
+abbrev pub AllCame : List Note → List Handle → Type 0
+AllCame notes [] = ⊤
+AllCame notes (hold ∷ holds) = IsPrefix (history_of hold.seen) notes × AllCame (unlinked notes hold.key) holds
+
+-- there is a first of these holds, which waited once it had learned that this history had come; and the others
+-- waited for nobody
+abbrev pub FirstWaited : List Note → List Handle → List Handle → Type 0
+FirstWaited past [] receipts = ⊥
+FirstWaited past (hold ∷ holds) [] = ⊥
+FirstWaited past (hold ∷ holds) (receipt ∷ receipts) = WaitedAfter past (seat_view hold) (seat_view receipt)
+    × Each (λ x y. OnlyLooked (seat_view x) (seat_view y)) holds receipts
+
+-- a turn of a removal that has these keys left, after this history: the unlinks of its nodes, in the order of
+-- the keys, at most 64, are all that came before the next border, but that the next key may have been unlinked
+-- too and have no receipt yet. Each receipt has seen that border. Nobody waited for a node but the first, and
+-- for that only once the turn before was over
+pub record IsTurn (past : List Note) (keys : List Key) (turn : Turn) : Type 0 where
+  pub after : IsPrefix past turn.found
+  pub taken : IsTaken turn.found
+  pub first : IsPrefix (keys_of turn.holds) turn.gone
+  pub among : IsPrefix turn.gone keys
+  pub most : length turn.gone ≤ 64
+  pub came : AllCame turn.found turn.holds
+  pub seen : All (λ receipt. IsPrefix (turn_end turn) (history_of receipt.seen)) turn.receipts
+  pub waited : FirstWaited past turn.holds turn.receipts
+
+-- the same node's seat, which only looked
+abbrev pub Stays : Handle → Handle → Type 0
+Stays before after = IsSameSeat before after × OnlyLooked (seat_view before) (seat_view after)
+
+-- of the nodes of these holds, which were left when this was the history, the first were unlinked in their
+-- order: so came the history that is after it, and so came receipts to those that were there. The others are
+-- left
+pub record WereUnlinked (found after : List Note) (holds before receipts left : List Handle) : Type 0 where
+  pub done : List Handle
+  pub rest : List Handle
+  pub made : List Handle
+  pub gone : List Key
+  pub split : holds ≡ done ++ rest
+  pub added : receipts ≡ before ++ made
+  pub unlinks : after ≡ unlinked_each found gone
+  pub first : IsPrefix (keys_of done) gone
+  pub among : IsPrefix gone (keys_of holds)
+  pub most : length gone ≤ 64
+  pub came : AllCame found done
+  pub receipts_are : Each Stays done made
+  pub left_are : Each Stays rest left
+
+-- the first of these, if there is one, has seen this history
+abbrev pub FirstSaw : List Note → List Handle → Type 0
+FirstSaw notes [] = ⊤
+FirstSaw notes (hold ∷ holds) = IsPrefix notes (history_of hold.seen)
+
+-- the same, and then a border came; the receipts have seen that, and so has the first of those that are left
+pub record WasTurn (found : List Note) (holds before receipts left : List Handle) : Type 0 where
+  pub after : List Note
+  pub turn : WereUnlinked found after holds before receipts left
+  pub seen : All (λ receipt. IsPrefix (after ++ Border ∷ []) (history_of receipt.seen)) turn.made
+  pub next : FirstSaw (after ++ Border ∷ []) left
+
+-- the handle learned of this history, and nothing else changed of it
+abbrev pub Learned : List Note → Handle → Handle → Type 0
+Learned notes before after =
+    HasHeard before after × SawMore before.seen after.seen × (history_of after.seen ≡ notes)
+
+-- only the first of these learned of it
+abbrev pub FirstLearned : List Note → List Handle → List Handle → Type 0
+FirstLearned notes [] after = after ≡ []
+FirstLearned notes (hold ∷ holds) after = (told : Handle) × Learned notes hold told × (after ≡ told ∷ holds)
+
+-- the first of these, if there is one, waited until its node was drained
+abbrev pub FirstDrained : List Handle → List Handle → Type 0
+FirstDrained [] after = after ≡ []
+FirstDrained (hold ∷ holds) after = (drained : Handle) × IsSameSeat hold drained
+    × LookedAndWaited (seat_view hold) (seat_view drained) × (after ≡ drained ∷ holds)
+
+-- after this history these turns, one after the other, made these receipts of the first of the holds. The
+-- others are left
+abbrev pub AreTurns : List Note → List Handle → List Handle → List Handle → List Turn → Type 0
+AreTurns past holds left receipts [] = (holds ≡ left) × (receipts ≡ [])
+AreTurns past holds left receipts (turn ∷ turns) = (rest : List Handle) × (more : List Handle)
+    × (holds ≡ turn.holds ++ rest) × (receipts ≡ turn.receipts ++ more) × IsTurn past (keys_of holds) turn
+    × AreTurns (turn_end turn) rest left more turns
+
+-- one receipt for each hold, in their order, made by turns of the lock
+abbrev pub AllFinished : List Handle → List Handle → Type 0
+AllFinished holds receipts = (turns : List Turn) × AreTurns [] holds [] receipts turns
+
+-- one receipt for each node of a removal, in their order: the first were there before, and the others were
+-- made by turns of the lock
 abbrev pub AllEnded : List Handle → List Handle → Type 0
-AllEnded [] [] = ⊤
-AllEnded [] (receipt ∷ receipts) = ⊥
-AllEnded (hold ∷ holds) [] = ⊥
-AllEnded (hold ∷ holds) (receipt ∷ receipts) =
-    ((receipt ≡ hold) ⊎ (SawMore hold.seen receipt.seen × WasFinished hold receipt)) × AllEnded holds receipts
+AllEnded holds receipts = (kept : List Handle) × (left : List Handle) × (made : List Handle)
+    × (holds ≡ kept ++ left) × (receipts ≡ kept ++ made) × AllFinished left made
 
 -- to these receipts came one for each hold, in their order
 abbrev pub AreFinished : List Handle → List Handle → List Handle → Type 0

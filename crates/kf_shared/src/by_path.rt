@@ -165,6 +165,8 @@ impl<N: Naming> PathHolder<N> {
     }
 
     /// Gives a hold of the same tree back, in one word step. The next one is made with what it had of memory.
+    ///
+    /// Condition: the hold is of this tree's table.
     pub fn release(&mut self, hold: Hold)
         requires table { hold.table ≡ N.table }
         ensures looker { self.new.looker ≡ self.old.looker }

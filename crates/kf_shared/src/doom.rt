@@ -161,6 +161,11 @@ impl<N: Naming> Locked<N> {
 
     /// Dooms the subtree of the hold's node, and gives a hold for each of its nodes, in post-order, the given
     /// one last.
+    ///
+    /// Condition: the hold is of this table.
+    ///
+    /// Refusals, in order: Invalid (the root), TooManyHolds (a node below was found to have as many holds as
+    /// there may be), NoMemory. After a refusal nothing is marked, and the hold comes back.
     pub fn doom(&mut self, hold: Hold) -> Result<Vec<Hold>, (Hold, Refusal)>
         requires table { hold.table ≡ N.table }
         ensures order { IfOk result (λ holds. DoomHolds self.old.state.tree hold holds.items) }

@@ -19,14 +19,12 @@ use crate::locked::Locked;
 use crate::naming::Naming;
 use crate::removing::Removing;
 use crate::tree::SharedTree;
+use crate::unlinking::MOST_UNLINKED;
 use kf_core::Key;
 use kf_words::{Drained, Hold, Parted, try_drained};
 use std::collections::VecDeque;
 use std::marker::{Model, PhantomData};
 use std::sync::Wait;
-
-/// How many nodes a removal takes out of the tree, at most, before it unlocks.
-const MOST_UNLINKED: usize = 64;
 
 /// The nodes of a removal, each after all that is below it: receipts of the first, which have left the tree;
 /// at most one that was seen drained and was used again; holds of the others; and room for their receipts.
@@ -198,11 +196,10 @@ impl<'a, N: Naming> Model for Draining<'a, N> {
 }
 
 impl<N: Naming> Draining<'_, N> {
-    /// Waits until each node is drained, and takes it out of the tree. The receipts stand in the order of the
-    /// removal's holds, each of its hold's own seat. A receipt that the removal had stays as it was. Each
-    /// other has seen the unlink, which is all that came between two borders of the history. It takes no
-    /// memory, and may never return: it waits for every callback that runs on the nodes, its caller's own
-    /// among them, and for the lock, which its caller must not have.
+    /// Waits until the nodes are drained, and takes them out of the tree, as [`Removing::finish`] does. The
+    /// receipts stand in the order of the removal's holds, each of its hold's own seat. A receipt that the
+    /// removal had stays as it was. It takes no memory, and may never return: it waits for every callback that
+    /// runs on the nodes, its caller's own among them, and for the lock, which its caller must not have.
     ///
     /// Context: sleeps; takes the tree's lock, unless no node was in use.
     pub fn finish<R: Wait>(self, rt: &R) -> Vec<Parted>
@@ -213,18 +210,12 @@ impl<N: Naming> Draining<'_, N> {
     {
         let Draining { tree, rest } = self;
         let Rest {
-            mut receipts,
+            receipts,
             drained,
             holds,
             name: _,
         } = rest;
-        match drained {
-            Some(drained) => {
-                receipts.push_reserved(tree.finish_drained(rt, drained));
-                tree.finish_each(rt, holds.into_vec(), receipts)
-            }
-            None => tree.finish_each(rt, holds.into_vec(), receipts),
-        }
+        tree.finish_rest(rt, drained, holds, receipts)
     }
 }
 

@@ -29,6 +29,12 @@ fn kind_fault(node: Node) -> Option<Refusal>
 
 impl<N: Naming> Locked<N> {
     /// Hides the file of a hold: the tree is asked first, then the word, and then the tree is changed.
+    ///
+    /// Condition: the hold is of this table.
+    ///
+    /// Refusals, in order: IsDir, Invalid (a link), by the hold's own node; NoEntry (not linked, or doomed),
+    /// Busy (hidden), NoMemory. After a refusal the tree is as before and the hold comes back. If somebody
+    /// hid the key beside the tree, by [`Hold::hide`], Busy comes last and the hold has made one word step.
     pub fn hide(&mut self, hold: Hold) -> Result<Hiding, (Hold, Refusal)>
         requires table { hold.table ≡ N.table }
         ensures hiding { IfOk result (λ hiding. IsSameSeat hold hiding × WasHidden hold hiding) }
@@ -60,6 +66,8 @@ impl<N: Naming> Locked<N> {
     }
 
     /// Shows a hidden file again, in the words and, if it is linked there, in the tree.
+    ///
+    /// Condition: the token is of this table.
     pub fn show(&mut self, hidden: Hidden) -> Hold
         requires table { hidden.table ≡ N.table }
         ensures hold { IsSameSeat hidden result × WasShown hidden result }

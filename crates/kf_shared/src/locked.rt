@@ -1,5 +1,5 @@
 //! What the tree lock keeps, and its commands on one node.
-ghost use Rattle.std.specs.Prelude.{◌≡◌, ◌<◌, IfOk, IfErr, OnOk, OnErr, Some, None, true, false, not, slice_set};
+ghost use Rattle.std.specs.Prelude.{◌≡◌, ◌<◌, IfOk, IfErr, IfSome, OnOk, OnErr, Some, None, is_some, true, false, not, slice_set};
 ghost use Rattle.kf_core.specs.declared.key.Key.{Key};
 ghost use Rattle.kf_core.specs.declared.command.Command.TheVariants.{Create, Activate, Rename, Unlink};
 ghost use Rattle.kf_words.specs.declared.note.Note.TheVariants.{Did, Claimed};
@@ -9,7 +9,8 @@ ghost use Rattle.kf_core.specs.Tree.{is_linked};
 ghost use Rattle.kf_tree.specs.Causes.{linked_cause};
 ghost use Rattle.kf_table.specs.Children.{is_there_already};
 ghost use Rattle.kf_tree.specs.TreeLogs.{IsAccepted, IsRefused};
-ghost use Rattle.kf_words.specs.Nodes.{KeepsNodes, IsVacant, UnlinkAnswer, WasPinned};
+ghost use Rattle.kf_words.specs.Nodes.{KeepsNodes, IsVacant, UnlinkAnswer, WasPinned, sight_in};
+ghost use Rattle.kf_words.specs.Made.{WereLoaded};
 ghost use Rattle.kf_live.specs.Live.{Say};
 ghost use Rattle.kf_live.specs.Lookers.{links_seen};
 ghost use Rattle.kf_shared.specs.Locked.{IsWhole, Adds, Created, CreateRefused, BornLowest, move_cause, IsHoldOfNode, HoldRefused, Unchanged, UnlinkDone, UnlinkRefused, is_claimed, was_given};
@@ -17,11 +18,10 @@ ghost use Rattle.kf_shared.specs.Locked.{IsWhole, Adds, Created, CreateRefused, 
 use crate::marking::rise_each;
 use crate::naming::Naming;
 use crate::noting::{note_claim, note_last};
-use crate::tree::NewTree;
 use kf_core::{Key, Node, Refusal};
 use kf_live::{LiveTree, Lookup};
 use kf_tree::State;
-use kf_words::{Drained, Hold, Master};
+use kf_words::{Counts, Drained, Hold, Master};
 use std::alloc::Global;
 use std::marker::{Model, PhantomData};
 
@@ -79,26 +79,6 @@ fn put_claim(claims: &mut Vec<u32>, key: Key) -> bool
 }
 
 impl<N: Naming> Locked<N> {
-    /// The tree without its name.
-    pub fn unnamed(self) -> NewTree
-        ensures same { result ≡ self }
-        ensures table { result.master.table ≡ N.table }
-    {
-        let Locked {
-            alloc,
-            state,
-            master,
-            claims,
-            name: _,
-        } = self;
-        NewTree {
-            alloc,
-            state,
-            master,
-            claims,
-        }
-    }
-
     /// The tree with its stored commands.
     pub fn state(&self) -> &State
         ensures same { result.now ≡ self.now.state }
@@ -220,6 +200,17 @@ impl<N: Naming> Locked<N> {
             return Err(Refusal::NoEntry);
         }
         self.master.pin(key)
+    }
+
+    /// How many hold and use a linked node, by one load of each of the two words of its slot. Returns None,
+    /// with no word step, if the node is not linked.
+    pub fn counts(&mut self, key: Key) -> Option<Counts>
+        ensures linked { is_some result ≡ is_linked self.old.state.tree key }
+        ensures counted { IfSome result
+            (λ counts. WereLoaded key.slot counts (sight_in self.old.master) (sight_in self.new.master)) }
+        ensures same { Unchanged self.old self.new }
+    {
+        self.master.counts(key)
     }
 
     /// Takes a drained node out of the tree. False if it is no longer linked.

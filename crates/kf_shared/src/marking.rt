@@ -33,6 +33,8 @@ fn rise_one(master: &mut Master, key: Key)
 }
 
 /// Dooms each of these linked nodes that is not doomed yet.
+///
+/// Condition: each is linked.
 pub fn doom_each(master: &mut Master, keys: &[Key])
     requires linked { All (λ key. is_some (marks_at master.old.view.slots key) ≡ true) keys.now }
     ensures marks { Changed doomed_if keys.now master.old.view.slots master.new.view.slots }
@@ -44,6 +46,8 @@ pub fn doom_each(master: &mut Master, keys: &[Key])
 }
 
 /// Activates each of these linked nodes that is neither activated nor doomed.
+///
+/// Condition: each is linked.
 pub fn rise_each(master: &mut Master, keys: &[Key])
     requires linked { All (λ key. is_some (marks_at master.old.view.slots key) ≡ true) keys.now }
     ensures marks { Changed risen_if keys.now master.old.view.slots master.new.view.slots }

@@ -20,6 +20,10 @@ pub fn release_each(mut holds: Vec<Hold>) {
 }
 
 /// A new hold of each of these linked nodes, and room for one hold more. On a refusal no hold is left.
+///
+/// Condition: each is linked.
+///
+/// Refusals: TooManyHolds (a node was found to have as many holds as there may be), NoMemory.
 pub fn pin_each(master: &mut Master, alloc: Global, keys: &[Key]) -> Result<Vec<Hold>, Refusal>
     requires linked { All (λ key. is_some (marks_at master.old.view.slots key) ≡ true) keys.now }
     ensures kept { KeepsNodes master.old master.new }
@@ -48,6 +52,8 @@ pub fn pin_each(master: &mut Master, alloc: Global, keys: &[Key]) -> Result<Vec<
 
 /// What a removal returns if memory was refused: TooManyHolds if a node below the top is found full,
 /// and NoMemory if each is found to have room. It takes no memory, and looks only at the nodes below.
+///
+/// Condition: the words and the tree have as many slots.
 pub fn full_or_no_memory(state: &State, master: &mut Master, top: Key) -> Refusal
     requires slots { length master.old.view.slots ≡ length state.now.tree }
     ensures kept { KeepsNodes master.old master.new }

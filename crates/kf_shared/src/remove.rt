@@ -14,6 +14,7 @@ use crate::naming::Naming;
 use crate::tree::SharedTree;
 use kf_core::Refusal;
 use kf_words::{Call, Drained, Hold, Parted, wait_drained};
+use std::collections::VecDeque;
 use std::sync::Wait;
 
 impl<N: Naming> SharedTree<N> {
@@ -77,7 +78,10 @@ impl<N: Naming> SharedTree<N> {
         editor.guard.unlink_alone(drained)
     }
 
-    /// Finishes the holds one after the other, and adds the receipt of each to `receipts`.
+    /// Finishes the holds in their order, and adds the receipt of each to `receipts`. It waits until the first
+    /// node is drained, and takes it and those after it that nobody uses out of the tree in one turn of the
+    /// lock, at most 64; then it does the same for those that are left. In a turn nothing else is done. It
+    /// takes no memory, and may never return, as `finish`.
     ///
     /// Conditions: all are of this tree's table, and `receipts` has room for one more of each hold.
     ///
@@ -86,7 +90,7 @@ impl<N: Naming> SharedTree<N> {
         &self,
         rt: &R,
         holds: Vec<Hold>,
-        mut receipts: Vec<Parted>,
+        receipts: Vec<Parted>,
     ) -> Vec<Parted>
         requires holds { AreOf N.table holds.items }
         requires receipts { AreOf N.table receipts.items }
@@ -95,12 +99,7 @@ impl<N: Naming> SharedTree<N> {
         ensures owners { owners_of result.items ≡ owners_of receipts.items ++ owners_of holds.items }
         ensures finished { AreFinished receipts.items holds.items result.items }
     {
-        let mut rest = holds.into_iter();
-        while let Some(hold) = rest.next() {
-            receipts.push_reserved(self.finish(rt, hold));
-        }
-        rest.destroy_empty();
-        receipts
+        self.finish_rest(rt, None, VecDeque::from_vec(holds), receipts)
     }
 
     /// Dooms the subtree of the hold's node, and waits until each of its nodes is drained and out of the tree
@@ -186,7 +185,7 @@ impl<N: Naming> Editor<'_, N> {
     /// Refusals: those of `doom`. After a refusal nothing is marked, the tree is unlocked, and the hold comes
     /// back as it was.
     ///
-    /// Context: sleeps, once it has unlocked, and locks again for each node that had not left the tree then.
+    /// Context: sleeps, once it has unlocked, and locks again if a node had not left the tree then.
     pub fn remove<R: Wait>(self, rt: &R, hold: Hold) -> Result<Vec<Parted>, (Hold, Refusal)>
         requires table { hold.table ≡ N.table }
         ensures alone { IfOk result (λ receipts. Last (WasRemovedIn (history self.entry)

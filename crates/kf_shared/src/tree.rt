@@ -26,6 +26,7 @@ pub struct NewTree {
     pub(crate) state: LiveTree,
     pub(crate) master: Master,
     pub(crate) claims: Vec<u32>,
+    pub(crate) name: PhantomData<Brand>,
 }
 
 /// As for a [`Locked`].
@@ -36,6 +37,7 @@ impl Drop for NewTree {
             state: _,
             master: _,
             claims: _,
+            name: _,
         } = self;
     }
 }
@@ -62,6 +64,9 @@ fn no_claims(alloc: Global, slots: u32) -> Result<Vec<u32>, AllocError>
 }
 
 impl NewTree {
+    ghost use Rattle.std.specs.Borrow.{sem};
+    ghost use Rattle.kf_shared.specs.Lending.{LendsNamed};
+
     /// The tree with its stored commands.
     pub fn state(&self) -> &State
         ensures same { result.now ≡ self.now.state }
@@ -69,27 +74,18 @@ impl NewTree {
         self.state.state()
     }
 
-    /// The tree without a lock, under the name of its table, for one owner or for a lock that the caller
-    /// provides. It takes no memory.
+    /// The tree lent in its place, under the name of its table, for one owner or for a lock that the caller
+    /// provides. Nothing is moved.
     ///
     /// Condition: the name is that of this tree's table of words.
-    pub fn owned<N: Naming>(self) -> Locked<N>
-        requires { self.master.table ≡ N.table }
-        ensures same { result ≡ self }
+    #[inline(always)]
+    pub fn lent<N: Naming>(&mut self) -> &mut Locked<N>
+        requires table { self.old.master.table ≡ N.table }
+        ensures* writes_back { sem 𝓛 (LendsNamed N.row N.Naming self.entry result) }
+        ensures value { result.now ≡ self.old }
     {
-        let NewTree {
-            alloc,
-            state,
-            master,
-            claims,
-        } = self;
-        Locked {
-            alloc,
-            state,
-            master,
-            claims,
-            name: PhantomData,
-        }
+        let at = self as *mut NewTree as *mut Locked<N>;
+        unsafe { &mut *at }
     }
 
     /// The tree behind its lock, under the name of its table. It takes no memory.
@@ -103,6 +99,7 @@ impl NewTree {
             state,
             master,
             claims,
+            name: _,
         } = self;
         SharedTree {
             alloc,
@@ -188,6 +185,7 @@ impl SharedTree<Brand> {
             state,
             master,
             claims,
+            name: PhantomData,
         })
     }
 }

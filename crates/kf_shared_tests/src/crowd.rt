@@ -38,7 +38,7 @@ pub(crate) fn call<N: Naming, R: Wait>(rt: &R, tree: &SharedTree<N>, first: Hold
 }
 
 /// A letter for one digit of the number.
-fn letter(turn: u32, unit: u32) -> u8
+pub(crate) fn letter(turn: u32, unit: u32) -> u8
     requires { 0 < unit }
 {
     (turn / unit % 16) as u8 + 97

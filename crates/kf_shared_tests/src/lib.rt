@@ -18,6 +18,8 @@ mod roles;
 #[cfg(test)]
 mod tests;
 #[cfg(test)]
+mod turns;
+#[cfg(test)]
 mod unused;
 #[cfg(test)]
 mod waits;

@@ -5,6 +5,7 @@ ghost use Rattle.kf_core.specs.declared.caller.Phase.TheVariants as phase_of;
 use crate::crowd::{call, create, hide_on};
 use crate::fixtures::{enter, hold};
 use crate::lookers::{change, held_as_it_changes, keep_looking};
+use crate::turns::{leave_after, watch_turns};
 use crate::waits::{
     end_call, finish, meet_reading, restore_and_end, same_under_the_lock, wait_for,
 };
@@ -90,6 +91,8 @@ pub(crate) enum Role<N: Naming> {
     SeeEachChange(PathHolder<N>),
     Look(Lookup, PathHolder<N>, bool),
     Change,
+    WatchTurns(Vec<Key>),
+    LeaveAfter(Key, Inside<N>),
 }
 
 fn some_released(receipts: Vec<Parted>) -> bool {
@@ -199,6 +202,8 @@ pub(crate) fn act<N: Naming, R: Abort + Wait + Clock>(
             change(rt, tree);
             true
         }
+        Role::WatchTurns(keys) => watch_turns(rt, tree, keys.as_slice()),
+        Role::LeaveAfter(earlier, inside) => leave_after(rt, tree, earlier, inside),
     }
 }
 

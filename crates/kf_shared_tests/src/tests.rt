@@ -7,7 +7,8 @@ use crate::fixtures::{FILE, add, commands, hold, is_bare, made, made_late};
 use crate::lookers::{holder_of, looker_of};
 use crate::refused::refused_below;
 use crate::roles::{Counts, Inside, Role, act, act_in, call_of, held_by, hold_of};
-use crate::unused::{made_wide, unused_nodes};
+use crate::turns::{NODES, add_files};
+use crate::unused::{FILES, made_wide, unused_nodes};
 use kf_core::{Key, Node};
 use kf_shared::{Naming, NewTree, SharedTree, release_all};
 use kf_words::{Call, Hold};
@@ -36,6 +37,11 @@ enum Course {
     UnderTheLock,
     /// Two who read.
     Readers,
+    /// One who removes many nodes, one in a call of the first, and one who looks on.
+    ManyNodes,
+    /// One who removes a directory, one in a call of its first file, and one in a call of a later file, which
+    /// ends once the first file is gone.
+    LaterCall,
     /// Two who look up and one who opens without the lock, and one who changes the tree.
     Lookers,
     /// One who opens without the lock, after each change.
@@ -168,6 +174,52 @@ fn add_looker<N: Naming, R: Abort + Wait + Clock>(
     add_role(rt, tree, roles, role);
 }
 
+/// Those who are there for the removal of many nodes.
+fn add_many<N: Naming, R: Abort + Wait + Clock>(
+    rt: &R,
+    alloc: Global,
+    tree: &SharedTree<N>,
+    roles: &mut Vec<Option<Role<N>>>,
+) {
+    let keys = add_files(rt, alloc, tree);
+    if let (Some(first), Some(dir)) = (keys.first(), keys.last()) {
+        let (first, dir) = (*first, *dir);
+        add_role(
+            rt,
+            tree,
+            roles,
+            Role::EndCall(first, call_of(rt, tree, first)),
+        );
+        add_role(rt, tree, roles, Role::Remove(hold_of(rt, tree, dir)));
+    }
+    add_role(rt, tree, roles, Role::WatchTurns(keys));
+}
+
+/// Those who are there for a directory of three files.
+fn add_later<N: Naming, R: Abort + Wait + Clock>(
+    rt: &R,
+    tree: &SharedTree<N>,
+    roles: &mut Vec<Option<Role<N>>>,
+) {
+    let dir = add(rt, tree, b"/t", Node::Dir, true);
+    let first = add(rt, tree, b"/t/a", FILE, true);
+    let _between = add(rt, tree, b"/t/b", FILE, true);
+    let later = add(rt, tree, b"/t/c", FILE, true);
+    add_role(
+        rt,
+        tree,
+        roles,
+        Role::EndCall(first, call_of(rt, tree, first)),
+    );
+    add_role(
+        rt,
+        tree,
+        roles,
+        Role::LeaveAfter(first, call_of(rt, tree, later)),
+    );
+    add_role(rt, tree, roles, Role::Remove(hold_of(rt, tree, dir)));
+}
+
 fn gathered<N: Naming, R: Abort + Wait + Clock>(
     rt: &R,
     alloc: Global,
@@ -188,6 +240,8 @@ fn gathered<N: Naming, R: Abort + Wait + Clock>(
             let role = Role::SeeEachChange(holder_of(rt, alloc, tree));
             add_role(rt, tree, &mut roles, role);
         }
+        Course::ManyNodes => add_many(rt, alloc, tree, &mut roles),
+        Course::LaterCall => add_later(rt, tree, &mut roles),
         _ => add_two(rt, tree, &mut roles, course),
     }
     roles
@@ -265,7 +319,7 @@ fn run<N: Naming + Send + Sync, R: Abort + Threads + Wait + Clock + Sync>(
 }
 
 /// Courses under the lock, how often each is run, and how many are the first then.
-const COURSES: [(Course, u32, u64); 8] = [
+const COURSES: [(Course, u32, u64); 9] = [
     (Course::Crowd(false), 20, 0),
     (Course::Crowd(true), 20, 4),
     (Course::TwoSelves, 200, 1),
@@ -274,6 +328,7 @@ const COURSES: [(Course, u32, u64); 8] = [
     (Course::Restored, 5, 0),
     (Course::UnderTheLock, 20, 1),
     (Course::Readers, 20, 0),
+    (Course::LaterCall, 20, 0),
 ];
 
 /// Those who look up, or open, without the lock.
@@ -298,6 +353,29 @@ fn look_ups_and_holds_of_paths(rt: HostRuntime) {
     }
 }
 
+/// Runs the course of many nodes.
+fn run_many<N: Naming + Send + Sync, R: Abort + Threads + Wait + Clock + Sync>(
+    rt: &R,
+    alloc: Global,
+    new: NewTree,
+)
+    requires { new.master.table ≡ N.table }
+{
+    let tree = new.named::<N>();
+    let mut roles = gathered(rt, alloc, &tree, Course::ManyNodes);
+    let counts = counts();
+    all_act(rt, &tree, &mut roles, &counts);
+    all_good(rt, &tree, roles, &counts);
+    assert!(rt; is_bare(rt, &tree));
+}
+
+#[test]
+fn turns_of_a_removal(rt: HostRuntime) {
+    for _ in 0..5 {
+        run_many::<Brand, _>(&rt, rt.alloc(), made_wide(&rt, rt.alloc(), NODES + 1));
+    }
+}
+
 fn run_alone<N: Naming, R: Abort + Wait>(rt: &R, new: NewTree)
     requires { new.master.table ≡ N.table }
 {
@@ -313,5 +391,5 @@ fn removals_that_are_refused(rt: HostRuntime) {
 
 #[test]
 fn removals_of_unused_nodes(rt: HostRuntime) {
-    unused_nodes::<Brand, _>(&rt, made_wide(&rt, rt.alloc()));
+    unused_nodes::<Brand, _>(&rt, made_wide(&rt, rt.alloc(), FILES as u32 + 2));
 }

@@ -9,13 +9,13 @@ use std::process::Abort;
 use std::sync::Wait;
 
 /// Files of one directory, more than a removal unlinks at once, and the first of them that then stays.
-const FILES: u8 = 70;
+pub(crate) const FILES: u8 = 70;
 
 const STAYS: u8 = 64;
 
-/// A tree of enough slots for the root, the directory and its files.
-pub(crate) fn made_wide<R: Abort>(rt: &R, alloc: Global) -> NewTree {
-    let Some(limits) = Limits::new(FILES as u32 + 2, 2) else {
+/// A tree of this many slots.
+pub(crate) fn made_wide<R: Abort>(rt: &R, alloc: Global, slots: u32) -> NewTree {
+    let Some(limits) = Limits::new(slots, 2) else {
         panic!(rt; "no such limits")
     };
     match SharedTree::new(alloc, limits) {

@@ -2,7 +2,7 @@ use Rattle.std.proofs.Common.{rules, List, subst}
 use Rattle.kf_words.specs.Callers.{Handle}
 use Rattle.kf_shared.specs.Sections.{AllFinished}
 use Rattle.kf_shared.proofs.Receipts.{same_owner_keys}
-use Rattle.kf_shared.proofs.Removed.{all_made}
+use Rattle.kf_shared.proofs.Finished.{all_made}
 use Rattle.kf_shared.proofs.removing.Removing.finish.Goals as goal
 
 pub returns-clause-keys : goal.returns-clause-keys
