@@ -1,2 +1,4 @@
+pub mod Hot
 pub mod Names
 pub mod Receipts
+pub mod Refusals

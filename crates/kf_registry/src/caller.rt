@@ -2,13 +2,16 @@
 ghost use Rattle.std.specs.Prelude.{◌≡◌, ◌⊎◌, IfErr, IfOk, IfSome, true};
 ghost use Rattle.std.specs.Fn.{FnOnceReturnsAt, FnOnceTakesAt};
 ghost use Rattle.kf_core.specs.declared.caller.Phase.TheVariants as phase_of;
-ghost use Rattle.kf_core.specs.declared.refusal.Refusal.TheVariants as refusal_of;
-ghost use Rattle.kf_shared.specs.Finding.{WasNotHeld};
+ghost use Rattle.kf_words.specs.Notes.{history_of};
+ghost use Rattle.kf_shared.specs.Finding.{WasNamed, WasNotHeld};
+ghost use Rattle.kf_shared.specs.Locked.{IsWhole, history};
+ghost use Rattle.kf_shared.specs.Sections.{IsTaken};
+ghost use Rattle.kf_registry.specs.Refusals.{WasNotLent};
 
-use crate::published::Published;
+use crate::published::{Published, Stored};
 use crate::registry::Registry;
 use kf_core::{Phase, Refusal};
-use kf_shared::{Naming, PathHolder, SharedTree};
+use kf_shared::{Editor, Naming, PathHolder, SharedTree};
 use kf_words::Call;
 use std::sync::Wait;
 
@@ -34,18 +37,32 @@ impl<N: Naming, T: Published> Registry<N, T> {
     {
         let key = call.key();
         match &*self.place(key).read(rt) {
-            Some(entry) if entry.is_of(key, path) => Ok(f(&entry.value)),
+            Some(Stored::Plain(entry)) if entry.is_of(key, path) => Ok(f(&entry.value)),
+            Some(Stored::Hot(hot)) if hot.key == key => hot.lanes.lend(rt, 0, path, f),
             _ => Err(f),
         }
     }
 }
 
-/// What a thread calls values by. Each thread has its own.
-pub struct Caller<N: Naming> {
+/// What a thread calls, publishes and takes values by. Each thread has its own. It learns what the tree's
+/// lock says: so each refusal names what was found in the tree of the one run, when the lock was taken.
+pub struct ValueCaller<N: Naming> {
     pub(crate) holder: PathHolder<N>,
 }
 
-impl<N: Naming> Caller<N> {
+impl<N: Naming> ValueCaller<N> {
+    /// Takes the lock of the tree, and learns the whole history.
+    pub(crate) fn lock<'a, R: Wait>(&mut self, rt: &R, tree: &'a SharedTree<N>) -> Editor<'a, N>
+        ensures whole { IsWhole N.table result }
+        ensures taken { IsTaken (history result) }
+        ensures known { history_of self.new.holder.holds.by.seen ≡ history result }
+    {
+        let mut editor = tree.edit(rt);
+        self.holder.learn(&mut editor);
+        let _ = editor.state();
+        editor
+    }
+
     /// A running call of the live node that a path names, with no lock of the tree.
     fn try_enter(&mut self, path: &[u8]) -> Option<Call>
         ensures running { IfSome result (λ call. call.phase ≡ phase_of.Running) }
@@ -67,11 +84,12 @@ impl<N: Naming> Caller<N> {
     fn enter<R: Wait>(&mut self, rt: &R, tree: &SharedTree<N>, path: &[u8]) -> Result<Call, Refusal>
         ensures running { IfOk result (λ call. call.phase ≡ phase_of.Running) }
         ensures table { IfOk result (λ call. call.table ≡ N.table) }
+        ensures named { IfOk result (λ call. WasNamed path.now self.new.holder.holds.by call) }
         ensures refused { IfErr result (λ why.
-            WasNotHeld path.now self.new.holder.holds.by why ⊎ (why ≡ refusal_of.NoDevice)) }
+            WasNotHeld path.now self.new.holder.holds.by why
+            ⊎ WasNotLent path.now self.new.holder.holds.by why) }
     {
-        let mut editor = tree.edit(rt);
-        self.holder.learn(&mut editor);
+        let mut editor = self.lock(rt, tree);
         let key = editor.state().lookup(path)?;
         let hold = editor.hold(key)?;
         match hold.enter() {
@@ -128,7 +146,7 @@ impl<N: Naming> Caller<N> {
             (value : T) × (T.suits path.now value ≡ true) × FnOnceReturnsAt F.FnOnce f value answer) }
         ensures refused { IfErr result (λ why.
             WasNotHeld path.now self.new.holder.holds.by why
-            ⊎ (why ≡ refusal_of.NoDevice) ⊎ (why ≡ refusal_of.NoEntry)) }
+            ⊎ WasNotLent path.now self.new.holder.holds.by why) }
     {
         let f = match self.try_call(rt, registry, path, f) {
             Ok(answer) => return Ok(answer),
@@ -145,9 +163,9 @@ impl<N: Naming> Caller<N> {
 }
 
 /// Gives its hold of the root back.
-impl<N: Naming> Drop for Caller<N> {
+impl<N: Naming> Drop for ValueCaller<N> {
     fn drop(self) {
-        let Caller { holder } = self;
+        let ValueCaller { holder } = self;
         holder.end().release();
     }
 }

@@ -2,6 +2,7 @@
 ghost use Rattle.std.specs.Prelude.{◌≡◌, ◌≤◌, MatchResult, IsTrue, length, true};
 ghost use Rattle.kf_registry.specs.Names.{name_in};
 
+use crate::lanes::HotEntry;
 use arrayvec::ArrayVec;
 use kf_core::{Key, Refusal};
 
@@ -19,6 +20,13 @@ pub trait Published: Drop {
 
     /// This value may stand under this path. Each may, unless the implementation says otherwise.
     ghost suits: { List ℕ → Self → Bool } = { λ _ _. true };
+}
+
+/// What is in a place: a value, or what a hot value is called by.
+#[derive(Drop)]
+pub(crate) enum Stored<T: Published> {
+    Plain(Entry<T>),
+    Hot(HotEntry<T>),
 }
 
 /// A value in its place, with the path that it was published under and the key of its node.
@@ -41,14 +49,10 @@ impl<T: Published> Entry<T> {
         ensures key { result.key ≡ key }
         ensures value { result.value ≡ value }
     {
-        let mut copy = ArrayVec::<u8, 256>::new();
-        match copy.try_extend_from_slice(path) {
-            Ok(()) => Entry {
-                path: copy,
-                key,
-                value,
-            },
-            Err(_) => unreachable!(),
+        Entry {
+            path: copy_of(path),
+            key,
+            value,
         }
     }
 
@@ -69,6 +73,20 @@ impl<T: Published> Entry<T> {
             value,
         } = self;
         value
+    }
+}
+
+/// A copy of a path.
+///
+/// Condition: it fits.
+pub(crate) fn copy_of(path: &[u8]) -> ArrayVec<u8, 256>
+    requires fits { length path.now ≤ 256 }
+    ensures same { result.items ≡ path.now }
+{
+    let mut copy = ArrayVec::<u8, 256>::new();
+    match copy.try_extend_from_slice(path) {
+        Ok(()) => copy,
+        Err(_) => unreachable!(),
     }
 }
 

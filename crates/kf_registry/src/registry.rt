@@ -1,27 +1,26 @@
 //! The registry: its tree, a place for each slot, and publishing.
-ghost use Rattle.std.specs.Prelude.{◌≡◌, ◌<◌, ◌≤◌, IfErr, IfOk, OnErr, length, vec_len, true};
-ghost use Rattle.kf_shared.specs.Locked.{Adds, CreateRefused, Unchanged};
-ghost use Rattle.kf_registry.specs.Receipts.{PublishRefused, WereListed, stands, value_node};
+ghost use Rattle.std.specs.Prelude.{◌≡◌, ◌<◌, ◌≤◌, IfErr, IfOk, length, vec_len, true};
+ghost use Rattle.kf_shared.specs.Locked.{Adds};
+ghost use Rattle.kf_registry.specs.Receipts.{WasPublished, stands, value_node};
+ghost use Rattle.kf_registry.specs.Refusals.{PublishRefused, StandCause, WereListed};
 ghost use Rattle.std.specs.Option.{option_copied};
 
-use crate::caller::Caller;
-use crate::published::{Entry, Published, name_of};
-use kf_core::{Key, Limits, Node, Refusal};
+use crate::caller::ValueCaller;
+use crate::nodes::{VALUE, create_node};
+use crate::published::{Entry, Published, Stored, name_of};
+use kf_core::{Key, Limits, Refusal};
 use kf_index::Name;
 use kf_shared::{Editor, Naming, NewTree, PathHolder, SharedTree};
 use std::alloc::Global;
 use std::marker::Brand;
 use std::sync::{RwLock, Wait};
 
-/// What the node of each value is.
-const VALUE: Node = Node::File { mode: 0, tag: 0 };
-
 /// A registry that has no name yet: [`NewRegistry::named`] makes of it the one that threads share.
 #[derive(Drop)]
 pub struct NewRegistry<T: Published> {
     alloc: Global,
     tree: NewTree,
-    places: Vec<RwLock<Option<Entry<T>>>>,
+    places: Vec<RwLock<Option<Stored<T>>>>,
     ghost some: { 0 < vec_len places },
 }
 
@@ -70,15 +69,15 @@ impl<T: Published> NewRegistry<T> {
 /// share it by reference.
 #[derive(Drop)]
 pub struct Registry<N: Naming, T: Published> {
-    alloc: Global,
+    pub(crate) alloc: Global,
     pub(crate) tree: SharedTree<N>,
-    places: Vec<RwLock<Option<Entry<T>>>>,
+    places: Vec<RwLock<Option<Stored<T>>>>,
     ghost some: { 0 < vec_len places },
 }
 
 impl<N: Naming, T: Published> Registry<N, T> {
     /// The place of a node. There are as many places as slots, so the remainder is the slot itself.
-    pub(crate) fn place(&self, key: Key) -> &RwLock<Option<Entry<T>>> {
+    pub(crate) fn place(&self, key: Key) -> &RwLock<Option<Stored<T>>> {
         &self.places[key.slot as usize % self.places.len()]
     }
 
@@ -99,16 +98,15 @@ impl<N: Naming, T: Published> Registry<N, T> {
         requires suits { T.suits path.now value ≡ true }
         requires fits { length path.now ≤ 256 }
         ensures noted { IfOk result (λ key.
-            Adds editor.old editor.new (stands editor.old.state.root key name.now)) }
+            Adds editor.old editor.new (stands value_node editor.old.state.root key name.now)) }
         ensures back { IfErr result (λ r. r.0 ≡ value) }
         ensures refused { IfErr result (λ r.
-            CreateRefused editor.old editor.new editor.old.state.root name.now value_node r.1) }
-        ensures same { OnErr result (Unchanged editor.old editor.new) }
+            StandCause name.now value_node r.1 editor.old.state.tree editor.old.state.root) }
     {
-        let root = editor.state().root();
-        match editor.create(root, name, VALUE, true) {
+        match create_node(editor, name, VALUE) {
             Ok(key) => {
-                *self.place(key).write(rt) = Some(Entry::new(path, key, value));
+                let entry = Entry::new(path, key, value);
+                *self.place(key).write(rt) = Some(Stored::Plain(entry));
                 Ok(key)
             }
             Err(why) => Err((value, why)),
@@ -124,17 +122,29 @@ impl<N: Naming, T: Published> Registry<N, T> {
     /// changed, and the value comes back.
     ///
     /// Context: takes the tree's lock, which its caller must not have.
-    pub fn publish<R: Wait>(&self, rt: &R, path: &[u8], value: T) -> Result<(), (T, Refusal)>
+    pub fn publish<R: Wait>(
+        &self,
+        rt: &R,
+        by: &mut ValueCaller<N>,
+        path: &[u8],
+        value: T,
+    ) -> Result<(), (T, Refusal)>
         requires suits { T.suits path.now value ≡ true }
+        ensures published { IfOk result (λ _. (key : Key)
+            × WasPublished value_node path.now key by.new.holder.holds.by) }
         ensures back { IfErr result (λ r. r.0 ≡ value) }
-        ensures refused { IfErr result (λ r. PublishRefused path.now r.1) }
+        ensures refused { IfErr result (λ r. PublishRefused path.now by.new.holder.holds.by r.1) }
     {
         let name = match name_of(path) {
             Ok(name) => name,
             Err(why) => return Err((value, why)),
         };
-        match self.stand(rt, &mut self.tree.edit(rt), path, name, value) {
-            Ok(_) => Ok(()),
+        let mut editor = by.lock(rt, &self.tree);
+        match self.stand(rt, &mut editor, path, name, value) {
+            Ok(_) => {
+                by.holder.learn(&mut editor);
+                Ok(())
+            }
             Err(refused) => Err(refused),
         }
     }
@@ -148,23 +158,25 @@ impl<N: Naming, T: Published> Registry<N, T> {
     pub fn list<R: Wait>(
         &self,
         rt: &R,
+        by: &mut ValueCaller<N>,
         after: Option<&[u8]>,
         most: usize,
     ) -> Result<Vec<Name>, Refusal>
-        ensures listed { IfOk result (λ names. WereListed (option_copied after.entry) most names.items) }
+        ensures listed { IfOk result
+            (λ names. WereListed by.new.holder.holds.by (option_copied after.entry) most names.items) }
     {
-        let reader = self.tree.read(rt);
-        let state = reader.state();
+        let editor = by.lock(rt, &self.tree);
+        let state = editor.state();
         state.list(state.root(), after, most)
     }
 
-    /// What a thread calls by.
+    /// What a thread calls, publishes and takes values by.
     ///
     /// Refusals: TooManyHolds (there are as many callers as there may be), NoMemory.
     ///
     /// Context: takes the tree's lock, which its caller must not have.
-    pub fn caller<R: Wait>(&self, rt: &R) -> Result<Caller<N>, Refusal> {
+    pub fn caller<R: Wait>(&self, rt: &R) -> Result<ValueCaller<N>, Refusal> {
         let holder = PathHolder::new(self.alloc, &mut self.tree.edit(rt))?;
-        Ok(Caller { holder })
+        Ok(ValueCaller { holder })
     }
 }

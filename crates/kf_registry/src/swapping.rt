@@ -1,12 +1,15 @@
 //! Putting another value in the place of one that is published.
-ghost use Rattle.std.specs.Prelude.{◌≡◌, ◌≤◌, ◌⊎◌, Ok, IfErr, IfOk, length, true};
+ghost use Rattle.std.specs.Prelude.{◌≡◌, ◌≤◌, ℕ, List, Ok, IfErr, IfOk, length, true};
 ghost use Rattle.kf_core.specs.declared.command.Command.TheVariants.{Doom};
 ghost use Rattle.kf_tree.specs.Paths.{seen};
 ghost use Rattle.kf_words.specs.declared.note.Note.TheVariants.{Did};
 ghost use Rattle.kf_shared.specs.Locked.{Adds};
 ghost use Rattle.kf_shared.specs.Sections.{Last};
-ghost use Rattle.kf_registry.specs.Receipts.{AwayRefused, Exchanged, StandRefused, SwapRefused, WasMovedAway, WasSwapped};
+ghost use Rattle.kf_registry.specs.Receipts.{Exchanged, IsLeaving, IsPlain, WasMovedAway, WasSwapped};
+ghost use Rattle.kf_registry.specs.Refusals.{SwapCause, SwapRefused};
 
+use crate::caller::ValueCaller;
+use crate::nodes::is_hot;
 use crate::published::{Published, name_of};
 use crate::registry::Registry;
 use crate::taking::Taken;
@@ -21,7 +24,9 @@ fn digit(number: u32) -> u8 {
 
 /// The name that the node of a slot gets before it is removed: no path of a registry leads there, and no
 /// other linked node has it.
-fn leaving_name(slot: u32) -> [u8; 9] {
+fn leaving_name(slot: u32) -> [u8; 9]
+    ensures leaving { IsLeaving result }
+{
     [
         b'.',
         digit(slot >> 28),
@@ -38,13 +43,18 @@ fn leaving_name(slot: u32) -> [u8; 9] {
 /// Moves the live node that a path names to its leaving name. That it may have a hold more is tried first:
 /// the last place is kept for the tree, so its removal will get that.
 ///
-/// Refusals, in order: those of [`kf_tree::State::lookup`], TooManyHolds or NoMemory, those of
-/// [`Editor::rename`]. Then nothing is changed.
+/// Refusals, in order: those of [`kf_tree::State::lookup`], Busy (its value is hot), TooManyHolds or
+/// NoMemory, those of [`Editor::rename`]. Then nothing is changed.
 fn move_away<N: Naming>(editor: &mut Editor<'_, N>, path: &[u8]) -> Result<Key, Refusal>
-    ensures moved { IfOk result (λ old. WasMovedAway editor.old editor.new path.now old) }
-    ensures refused { IfErr result (λ why. AwayRefused path.now why) }
+    ensures moved { IfOk result (λ old.
+        (away : List ℕ) × WasMovedAway editor.old editor.new path.now old away) }
+    ensures refused { IfErr result (λ why. (name : List ℕ) →
+        SwapCause path.now name why editor.old.state.tree editor.old.state.root) }
 {
     let old = editor.state().lookup(path)?;
+    if is_hot(editor.state(), old) {
+        return Err(Refusal::Busy);
+    }
     editor.hold(old)?.release();
     let root = editor.state().root();
     editor.rename(old, root, &leaving_name(old.slot))?;
@@ -92,10 +102,12 @@ impl<N: Naming, T: Published> Registry<N, T> {
         requires fits { length path.now ≤ 256 }
         ensures named { IfOk result (λ r.
             seen editor.old.state.tree editor.old.state.root path.now ≡ Ok r.0) }
+        ensures plain { IfOk result (λ r. IsPlain editor.old.state.tree r.0) }
         ensures done { IfOk result (λ r. Exchanged editor.old editor.new r.0 name.now) }
         ensures last { IfOk result (λ r. Last (λ hold. hold.key ≡ r.0) r.1) }
         ensures back { IfErr result (λ r. r.0 ≡ value) }
-        ensures refused { IfErr result (λ r. AwayRefused path.now r.1 ⊎ StandRefused name.now r.1) }
+        ensures refused { IfErr result (λ r.
+            SwapCause path.now name.now r.1 editor.old.state.tree editor.old.state.root) }
     {
         let old = match move_away(editor, path) {
             Ok(old) => old,
@@ -117,23 +129,29 @@ impl<N: Naming, T: Published> Registry<N, T> {
     /// Condition: the value suits the path.
     ///
     /// Refusals, in order: Invalid, NameTooLong (as [`Registry::publish`]); those of
-    /// [`kf_tree::State::lookup`] (NoEntry: nothing is published there, or it is being taken); TooManyHolds
-    /// or NoMemory; NoSpace (there are as many values as there may be), NoMemory. After a refusal the value
-    /// before stands as before, and the new one comes back.
+    /// [`kf_tree::State::lookup`] (NoEntry: nothing is published there, or it is being taken); Busy (the
+    /// value is hot: its owner has it); TooManyHolds or NoMemory; NoSpace (there are as many values as there
+    /// may be), NoMemory. After a refusal the value before stands as before, and the new one comes back.
     ///
     /// Context: as [`Registry::take`].
-    pub fn swap<R: Wait>(&self, rt: &R, path: &[u8], value: T) -> Result<Taken<T>, (T, Refusal)>
+    pub fn swap<R: Wait>(
+        &self,
+        rt: &R,
+        by: &mut ValueCaller<N>,
+        path: &[u8],
+        value: T,
+    ) -> Result<Taken<T>, (T, Refusal)>
         requires suits { T.suits path.now value ≡ true }
         ensures suits { IfOk result (λ old. T.suits path.now old.value ≡ true) }
         ensures swapped { IfOk result (λ old. WasSwapped path.now old.receipt) }
         ensures back { IfErr result (λ r. r.0 ≡ value) }
-        ensures refused { IfErr result (λ r. SwapRefused path.now r.1) }
+        ensures refused { IfErr result (λ r. SwapRefused path.now by.new.holder.holds.by r.1) }
     {
         let name = match name_of(path) {
             Ok(name) => name,
             Err(why) => return Err((value, why)),
         };
-        let mut editor = self.tree.edit(rt);
+        let mut editor = by.lock(rt, &self.tree);
         match self.exchange(rt, &mut editor, path, name, value) {
             Err(refused) => Err(refused),
             Ok((old, removing)) => Ok(self.take_back(rt, editor, path, old, removing)),

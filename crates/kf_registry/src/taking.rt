@@ -1,25 +1,31 @@
 //! Taking a value away.
-ghost use Rattle.std.specs.Prelude.{◌≡◌, ◌∷◌, ◌++◌, [], List, IfErr, IfOk, MatchOption, true};
+ghost use Rattle.std.specs.Prelude.{◌≡◌, ◌∷◌, ◌++◌, [], List, IfErr, IfOk, IfSome, MatchOption, true};
 ghost use Rattle.kf_core.specs.declared.caller.Phase.TheVariants as phase_of;
 ghost use Rattle.kf_core.specs.declared.command.Command.TheVariants.{Doom};
 ghost use Rattle.kf_words.specs.Callers.{Handle};
 ghost use Rattle.kf_words.specs.declared.note.Note.TheVariants.{Did};
 ghost use Rattle.kf_shared.specs.Locked.{Adds, Locked, history};
 ghost use Rattle.kf_shared.specs.Sections.{Last};
-ghost use Rattle.kf_registry.specs.Receipts.{TakeRefused, WasRemovedAfter, WasTaken};
+ghost use Rattle.kf_registry.specs.Receipts.{IsPlain, WasRemovedAfter, WasTaken};
+ghost use Rattle.kf_registry.specs.Refusals.{TakeCause, WasFound};
 
-use crate::published::Published;
+use crate::caller::ValueCaller;
+use crate::nodes::is_hot;
+use crate::published::{Published, Stored};
 use crate::registry::Registry;
 use kf_core::{Key, Refusal};
+use kf_gates::Closed;
 use kf_shared::{Editor, Naming, Removing, release_all};
 use kf_words::Parted;
 use std::sync::Wait;
 
-/// A value that came back, with the receipt of its node: nobody is inside, and nobody comes in any more. The
-/// node's slot is not used again until this is spent, by `into_value`, or dropped.
+/// A value that came back, with the receipt of its node, and the gate of a hot one, which is closed: nobody
+/// is inside, and nobody comes in any more. The node's slot is not used again until this is spent, by
+/// `into_value`, or dropped.
 pub struct Taken<T: Published> {
     pub(crate) value: T,
     pub(crate) receipt: Parted,
+    pub(crate) gate: Option<Closed>,
 }
 
 impl<T: Published> Taken<T> {
@@ -34,7 +40,11 @@ impl<T: Published> Taken<T> {
     pub fn into_value(self) -> T
         ensures { result ≡ self.value }
     {
-        let Taken { value, receipt } = self;
+        let Taken {
+            value,
+            receipt,
+            gate: _,
+        } = self;
         receipt.release();
         value
     }
@@ -43,19 +53,41 @@ impl<T: Published> Taken<T> {
 /// Releases the receipt, and drops the value.
 impl<T: Published> Drop for Taken<T> {
     fn drop(self) {
-        let Taken { value: _, receipt } = self;
+        let Taken {
+            value: _,
+            receipt,
+            gate: _,
+        } = self;
         receipt.release();
     }
 }
 
 /// The last of the receipts. The others are released.
-fn last_of(mut receipts: Vec<Parted>) -> Option<Parted>
+pub(crate) fn last_of(mut receipts: Vec<Parted>) -> Option<Parted>
     ensures last { MatchOption result (receipts.items ≡ [])
         (λ last. (front : List Handle) × (receipts.items ≡ front ++ last ∷ [])) }
 {
     let last = receipts.pop();
     release_all(receipts);
     last
+}
+
+/// The value of the node of this key, which was published under this path: the place is empty after that.
+/// None if the place has none, and then it stays as it was.
+fn out_of<T: Published>(place: &mut Option<Stored<T>>, key: Key, path: &[u8]) -> Option<T>
+    ensures suits { IfSome result (λ value. T.suits path.now value ≡ true) }
+{
+    match std::mem::replace(place, None) {
+        Some(Stored::Plain(entry)) => {
+            if entry.is_of(key, path) {
+                return Some(entry.into_value());
+            }
+            *place = Some(Stored::Plain(entry));
+        }
+        Some(Stored::Hot(hot)) => *place = Some(Stored::Hot(hot)),
+        None => {}
+    }
+    None
 }
 
 impl<N: Naming, T: Published> Registry<N, T> {
@@ -67,10 +99,8 @@ impl<N: Naming, T: Published> Registry<N, T> {
     {
         let key = receipt.key();
         for _ in rt.forever() {
-            let mut place = self.place(key).write(rt);
-            match std::mem::replace(&mut *place, None) {
-                Some(entry) if entry.is_of(key, path) => return entry.into_value(),
-                other => *place = other,
+            if let Some(value) = out_of(&mut *self.place(key).write(rt), key, path) {
+                return value;
             }
         }
         unreachable!()
@@ -98,25 +128,37 @@ impl<N: Naming, T: Published> Registry<N, T> {
             unreachable!()
         };
         let value = self.value_of(rt, path, &receipt);
-        Taken { value, receipt }
+        Taken {
+            value,
+            receipt,
+            gate: None,
+        }
     }
 
     /// Takes away the value under a path, waits until nobody is inside, and gives it back. From the moment
     /// at which it marks the node no call begins there, and the path is free again when this returns.
     ///
     /// Refusals, in order: those of [`kf_tree::State::lookup`] (NoEntry: nothing is published there, or it is
-    /// being taken); Invalid (the root); TooManyHolds or NoMemory, whichever is met first. After a refusal
-    /// the value stands as before.
+    /// being taken); Busy (the value is hot: its owner takes it); Invalid (the root); TooManyHolds or
+    /// NoMemory, whichever is met first. After a refusal the value stands as before.
     ///
     /// Context: sleeps; takes the tree's lock, which its caller must not have. It waits for all who are
     /// inside, so a function that is inside must not call it.
-    pub fn take<R: Wait>(&self, rt: &R, path: &[u8]) -> Result<Taken<T>, Refusal>
+    pub fn take<R: Wait>(
+        &self,
+        rt: &R,
+        by: &mut ValueCaller<N>,
+        path: &[u8],
+    ) -> Result<Taken<T>, Refusal>
         ensures suits { IfOk result (λ taken. T.suits path.now taken.value ≡ true) }
-        ensures taken { IfOk result (λ taken. WasTaken path.now taken.receipt) }
-        ensures refused { IfErr result (λ why. TakeRefused path.now why) }
+        ensures taken { IfOk result (λ taken. WasTaken IsPlain path.now taken.receipt) }
+        ensures refused { IfErr result (λ why. WasFound by.new.holder.holds.by (TakeCause path.now why)) }
     {
-        let mut editor = self.tree.edit(rt);
+        let mut editor = by.lock(rt, &self.tree);
         let key = editor.state().lookup(path)?;
+        if is_hot(editor.state(), key) {
+            return Err(Refusal::Busy);
+        }
         let removing = editor.begin_removal_of(key)?;
         Ok(self.take_back(rt, editor, path, key, removing))
     }

@@ -42,10 +42,14 @@ impl Counted {
 }
 
 /// The number of a value that came back, and how often it was called. None if somebody is inside.
-pub(crate) fn back(taken: Taken<Counted>) -> Option<(u64, u64)> {
-    let value = taken.into_value();
+pub(crate) fn counts_of(value: Counted) -> Option<(u64, u64)> {
     if value.inside.load(Ordering::SeqCst) != 0 {
         return None;
     }
     Some((value.number, value.calls.load(Ordering::SeqCst)))
+}
+
+/// The same of one that was taken.
+pub(crate) fn back(taken: Taken<Counted>) -> Option<(u64, u64)> {
+    counts_of(taken.into_value())
 }

@@ -2,7 +2,7 @@
 ghost use Rattle.std.specs.Prelude.{◌≡◌};
 
 use crate::counted::{Counted, back};
-use kf_registry::{Caller, NewRegistry, Registry};
+use kf_registry::{NewRegistry, Registry, ValueCaller};
 use kf_shared::Naming;
 use std::alloc::Global;
 use std::process::Abort;
@@ -15,7 +15,7 @@ const PATH: &[u8] = b"/one";
 /// What a thread calls by, how many calls found a value, and how many did not.
 #[derive(Drop)]
 struct Job<N: Naming> {
-    caller: Caller<N>,
+    caller: ValueCaller<N>,
     found: u64,
     missed: u64,
 }
@@ -50,6 +50,7 @@ fn calls<N: Naming, R: Wait>(
 fn swaps<N: Naming, R: Wait>(
     rt: &R,
     registry: &Registry<N, Counted>,
+    own: &mut ValueCaller<N>,
     signals: &Signals,
 ) -> Option<u64> {
     for _ in rt.forever() {
@@ -59,7 +60,7 @@ fn swaps<N: Naming, R: Wait>(
     }
     let mut all = 0u64;
     for number in 1..1001u64 {
-        let before = registry.swap(rt, PATH, Counted::new(number)).ok()?;
+        let before = registry.swap(rt, own, PATH, Counted::new(number)).ok()?;
         let (version, calls) = back(before)?;
         if version != number - 1 {
             return None;
@@ -69,6 +70,17 @@ fn swaps<N: Naming, R: Wait>(
     Some(all)
 }
 
+/// What a thread calls, publishes and takes by.
+pub(crate) fn own_caller<N: Naming, R: Abort + Wait>(
+    rt: &R,
+    registry: &Registry<N, Counted>,
+) -> ValueCaller<N> {
+    match registry.caller(rt) {
+        Ok(caller) => caller,
+        Err(_) => panic!(rt; "no memory"),
+    }
+}
+
 fn jobs<N: Naming, R: Abort + Wait>(
     rt: &R,
     alloc: Global,
@@ -76,11 +88,8 @@ fn jobs<N: Naming, R: Abort + Wait>(
 ) -> Vec<Job<N>> {
     let mut jobs = Vec::new(alloc);
     for _ in 0..4 {
-        let Ok(caller) = registry.caller(rt) else {
-            panic!(rt; "no memory")
-        };
         let job = Job {
-            caller,
+            caller: own_caller(rt, registry),
             found: 0,
             missed: 0,
         };
@@ -101,7 +110,9 @@ pub(crate) fn under_swaps<N: Naming + Send + Sync, R: Threads + Abort + Wait + S
     requires { new.tree.master.table ≡ N.table }
 {
     let registry = new.named::<N>();
-    assert!(rt; registry.publish(rt, PATH, Counted::new(0)).is_ok());
+    let mut own = own_caller(rt, &registry);
+    let first = registry.publish(rt, &mut own, PATH, Counted::new(0));
+    assert!(rt; first.is_ok());
     let mut jobs = jobs(rt, alloc, &registry);
     let signals = Signals {
         done: AtomicBool::new(false),
@@ -116,12 +127,12 @@ pub(crate) fn under_swaps<N: Naming + Send + Sync, R: Threads + Abort + Wait + S
             &|_, job| calls(rt, &registry, job, &signals),
         ),
         || {
-            let swapped = swaps(rt, &registry, &signals);
+            let swapped = swaps(rt, &registry, &mut own, &signals);
             signals.done.store(true, Ordering::SeqCst);
             swapped
         },
     );
-    let last = registry.take(rt, PATH).ok().and_then(back);
+    let last = registry.take(rt, &mut own, PATH).ok().and_then(back);
     let found = jobs
         .iter()
         .fold(0u64, |sum, job| sum.saturating_add(job.found));
@@ -136,7 +147,7 @@ pub(crate) fn under_swaps<N: Naming + Send + Sync, R: Threads + Abort + Wait + S
 fn stays<N: Naming, R: Wait>(
     rt: &R,
     registry: &Registry<N, Counted>,
-    caller: &mut Caller<N>,
+    caller: &mut ValueCaller<N>,
     signals: &Signals,
 ) -> bool {
     let stayed = caller.call(rt, registry, PATH, |value| {
@@ -156,14 +167,19 @@ fn stays<N: Naming, R: Wait>(
 }
 
 /// Takes the value once a call is inside. True if it came back with nobody inside.
-fn takes<N: Naming, R: Wait>(rt: &R, registry: &Registry<N, Counted>, signals: &Signals) -> bool {
+fn takes<N: Naming, R: Wait>(
+    rt: &R,
+    registry: &Registry<N, Counted>,
+    own: &mut ValueCaller<N>,
+    signals: &Signals,
+) -> bool {
     for _ in rt.forever() {
         if signals.begun.load(Ordering::SeqCst) != 0 {
             break;
         }
     }
     signals.done.store(true, Ordering::SeqCst);
-    match registry.take(rt, PATH) {
+    match registry.take(rt, own, PATH) {
         Ok(taken) => back(taken) == Some((7, 1)),
         Err(_) => false,
     }
@@ -177,10 +193,13 @@ pub(crate) fn taken_in_use<N: Naming + Send + Sync, R: Threads + Abort + Wait + 
     requires { new.tree.master.table ≡ N.table }
 {
     let registry = new.named::<N>();
-    assert!(rt; registry.publish(rt, PATH, Counted::new(7)).is_ok());
-    let Ok(mut caller) = registry.caller(rt) else {
-        panic!(rt; "no memory")
-    };
+    let mut own = own_caller(rt, &registry);
+    assert!(rt;
+        registry
+            .publish(rt, &mut own, PATH, Counted::new(7))
+            .is_ok()
+    );
+    let mut caller = own_caller(rt, &registry);
     let signals = Signals {
         done: AtomicBool::new(false),
         begun: AtomicU64::new(0),
@@ -188,7 +207,7 @@ pub(crate) fn taken_in_use<N: Naming + Send + Sync, R: Threads + Abort + Wait + 
     let (stayed, right) = join(
         rt,
         || stays(rt, &registry, &mut caller, &signals),
-        || takes(rt, &registry, &signals),
+        || takes(rt, &registry, &mut own, &signals),
     );
     assert!(rt; stayed && right);
     assert!(rt;

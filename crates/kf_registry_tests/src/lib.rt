@@ -6,6 +6,8 @@ mod counted;
 #[cfg(test)]
 mod crowd;
 #[cfg(test)]
+mod hot;
+#[cfg(test)]
 mod steps;
 #[cfg(test)]
 mod tests;

@@ -2,6 +2,7 @@
 
 use crate::counted::Counted;
 use crate::crowd::{taken_in_use, under_swaps};
+use crate::hot;
 use crate::steps::alone;
 use kf_registry::NewRegistry;
 use std::alloc::Global;
@@ -23,12 +24,24 @@ fn one_thread(rt: HostRuntime) {
 
 #[test]
 fn a_thousand_swaps(rt: HostRuntime) {
-    let new = made(&rt, rt.alloc(), 2, 4);
+    let new = made(&rt, rt.alloc(), 2, 5);
     under_swaps::<Brand, _>(&rt, rt.alloc(), new);
 }
 
 #[test]
 fn a_take_that_waits(rt: HostRuntime) {
-    let new = made(&rt, rt.alloc(), 1, 1);
+    let new = made(&rt, rt.alloc(), 1, 2);
     taken_in_use::<Brand, _>(&rt, new);
+}
+
+#[test]
+fn a_hot_value(rt: HostRuntime) {
+    let new = made(&rt, rt.alloc(), 2, 0);
+    hot::alone::<Brand, _>(&rt, new);
+}
+
+#[test]
+fn a_hundred_hot_values(rt: HostRuntime) {
+    let new = made(&rt, rt.alloc(), 1, 5);
+    hot::under_calls::<Brand, _>(&rt, rt.alloc(), new);
 }

@@ -5,7 +5,7 @@
 ghost use Rattle.std.specs.Prelude.{◌≡◌};
 
 use kf_core::Refusal;
-use kf_registry::{Caller, NewRegistry, Published, Registry};
+use kf_registry::{NewRegistry, Published, Registry, ValueCaller};
 use kf_shared::Naming;
 use std::alloc::Global;
 use std::marker::Brand;
@@ -29,15 +29,11 @@ impl Adder {
     fn call(&self) -> u64 {
         self.0.fetch_add(1, Ordering::SeqCst)
     }
-
-    fn calls(&self) -> u64 {
-        self.0.load(Ordering::SeqCst)
-    }
 }
 
 /// What a thread calls by, and how often it called the plug-in.
 #[derive(Drop)]
-struct Job<N: Naming>(Caller<N>, u64);
+struct Job<N: Naming>(ValueCaller<N>, u64);
 
 /// Calls the plug-in until there is none.
 fn call<N: Naming, R: Wait>(rt: &R, registry: &Registry<N, Adder>, job: &mut Job<N>) {
@@ -50,12 +46,16 @@ fn call<N: Naming, R: Wait>(rt: &R, registry: &Registry<N, Adder>, job: &mut Job
 }
 
 /// Swaps the plug-in, and returns how often those that came back were called.
-fn swap<N: Naming, R: Wait>(rt: &R, registry: &Registry<N, Adder>) -> Result<u64, Refusal> {
+fn swap<N: Naming, R: Wait>(
+    rt: &R,
+    registry: &Registry<N, Adder>,
+    own: &mut ValueCaller<N>,
+) -> Result<u64, Refusal> {
     let mut calls = 0u64;
     for _ in 0..1000 {
-        let before = registry.swap(rt, ADDER, Adder::new());
+        let before = registry.swap(rt, own, ADDER, Adder::new());
         let before = before.map_err(|refused| refused.1)?;
-        calls = calls.saturating_add(before.into_value().calls());
+        calls = calls.saturating_add(before.into_value().0.load(Ordering::SeqCst));
     }
     Ok(calls)
 }
@@ -68,7 +68,8 @@ fn run<N: Naming + Send + Sync, R: Threads + Wait + Print + Sync>(
     requires { new.tree.master.table ≡ N.table }
 {
     let registry = new.named::<N>();
-    let published = registry.publish(rt, ADDER, Adder::new());
+    let mut own = registry.caller(rt)?;
+    let published = registry.publish(rt, &mut own, ADDER, Adder::new());
     published.map_err(|refused| refused.1)?;
     let mut jobs = Vec::new(alloc);
     for _ in 0..4 {
@@ -78,10 +79,13 @@ fn run<N: Naming + Send + Sync, R: Threads + Wait + Print + Sync>(
     let (_, (swapped, last)) = join(
         rt,
         || for_each_mut(rt, jobs.as_mut_slice(), 4, &each),
-        || (swap(rt, &registry), registry.take(rt, ADDER)),
+        || (
+            swap(rt, &registry, &mut own),
+            registry.take(rt, &mut own, ADDER),
+        ),
     );
     let last = last?.into_value(); // nobody is inside, and nobody comes in
-    let all = swapped?.saturating_add(last.calls());
+    let all = swapped?.saturating_add(last.0.load(Ordering::SeqCst));
     let called = jobs.iter().fold(0u64, |sum, job| sum.saturating_add(job.1));
     println!(rt;
         "each call was of a plug-in that came back: {}",
@@ -91,5 +95,5 @@ fn run<N: Naming + Send + Sync, R: Threads + Wait + Print + Sync>(
 }
 
 fn main(rt: HostRuntime) -> anyhow::Result<()> {
-    run::<Brand, _>(&rt, rt.alloc(), NewRegistry::new(rt.alloc(), 2, 4)?)
+    run::<Brand, _>(&rt, rt.alloc(), NewRegistry::new(rt.alloc(), 2, 5)?)
 }

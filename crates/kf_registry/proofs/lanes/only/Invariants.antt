@@ -1,0 +1,6 @@
+use Rattle.std.proofs.Common.{◌≡◌}
+use Rattle.kf_registry.proofs.lanes.only.Given as goal
+
+-- it is the owner that came in
+abbrev pub invariant-loop : goal.invariant-loop
+invariant-loop g l = l.owner ≡ l.fn.own
