@@ -4,8 +4,8 @@
  * Link with -lkernfs_tree, or by pkg-config. Every function is documented here with its errors. It needs C99 or C++11.
  *
  * The promise: once kt_remove() has returned 0 or 1, no callback runs under a call of that node or any node below it,
- * and none ever starts; once kt_hide() has returned 0, so it is for that file until kt_unhide() or until the tree is
- * freed. A callback that has broken its protection (kt_break()) is not waited for, as in the kernel.
+ * and none ever starts. Once kt_hide() has returned 0, the same holds for that file until kt_unhide(), or until the
+ * tree is freed. A callback that has broken its protection (kt_break()) is not waited for, as in the kernel.
  *
  * What is behind a handle:
  *
@@ -14,22 +14,24 @@
  *     nothing --kt_hold()--> a hold --kt_enter()--> a call, running --kt_break()--> broken --kt_restore()--> restored
  *                             ^--------------kt_leave()-----'<--------------------------kt_leave()--------------'
  *     nothing --kt_dup()--> a hold of the node of another hold
+ *     nothing --kt_looker()--> a looker --kt_pin()--> a hold, behind another handle
  *
  * - A hold keeps the slot of its node from being reused; it does not keep the node in the tree.
  * - A call is what a callback runs under.
  * - A post reads and raises the event number (event counter) of a node's slot.
  * - An open file (kt_open()) is a hold too, with a post and the text of its last show. It is entered and left like a
  *   hold.
+ * - A looker looks paths up and makes holds without the tree's lock. Each thread has its own.
  * - A use that does not fit what is behind the handle returns -EINVAL: a hold instead of a tree, kt_leave() outside a
  *   call, kt_enter() twice, kt_leave() of a broken call.
  *
- * kt_hide() hides a file, which it names by its key, and kt_unhide() shows it again, both under the tree's lock.
+ * kt_hide() hides the file with a key, and kt_unhide() shows it again, both under the tree's lock.
  * kt_hide_wait() is kt_hide() that sleeps until nobody is inside. The tree keeps what hides a file, so a program keeps
  * only the key. Hidings are not counted: kt_hide() of a hidden file only looks again whether somebody is inside, and
  * one kt_unhide() shows the file. (A thread that still waits in kt_hide_wait() then hides it again.)
  *
  * Return values: 0 or more on success; a negative errno on failure, and then nothing has changed, not even what `out`
- * points to; but -EAGAIN of kt_remove() and kt_hide() means that it is in progress. Only the helpers of kt_wait.h,
+ * points to. There is one exception: after -EAGAIN the removal or the hiding has begun. Only the helpers of kt_wait.h,
  * which the end of this file includes, sleep, take a lock or call back. kt_strerror() of kt_tell.h has a text for each
  * number.
  *
@@ -49,11 +51,16 @@
  * - A call returns 0 only if the thing was done, as the tree defines it: the node is linked, found, moved, held,
  *   activated, or out of the tree; the hold was let in while its node was live; the call was left, broken or restored;
  *   the event number was raised.
- * - kt_leave(), kt_break(), kt_clear() and kt_delete() return 1 exactly if a removal or a hiding may be waiting for
- *   that step. kt_clear() and kt_delete() return 0 for everything but a call.
+ * - kt_leave() and kt_break() return 1 exactly if a removal or a hiding may be waiting for that step. kt_clear() and
+ *   kt_delete() end a call, and then return 1 for the same reason. They also return 1 exactly if the hold that they
+ *   release had the last place: their step found the maximum of holds. They return 0 for everything else.
+ * - kt_counts() returns what one load of each of the node's two counts found.
  * - What is written to `out` is what the tree, the post or the text has. A length is the length of what is written.
  * - kt_dup() counts one more hold of that node, by one step on its word of holds, and no other step counts one. The
- *   first hold stays as it is. Each number that it fails with has its cause (-ENOMEM: the word had a place).
+ *   first hold stays as it is. It fails with a number only for the cause of that number (-ENOMEM: there was a place).
+ * - kt_look() returns 0 only if the path led to the node among the links that the looker has seen by then, which
+ *   includes all that it had seen before; a new looker has seen what the tree says of its live nodes. kt_pin() counts
+ *   one more hold, by one step, while the node was linked. It fails with a number only for the cause of that number.
  * - A file is hidden by one step of a hold that the tree takes. Then kt_hide() looks once, and returns 0 if it saw
  *   nobody inside, and -EAGAIN if it saw somebody. Of the calls on a tree only kt_unhide() and kt_remove() show it.
  * - A file is opened only if its node is live and its mode allows it. A show begins only if the node was entered and
@@ -63,11 +70,11 @@
  * - kt_unhide() returns 0 only if it saw nobody inside; then one step took off what hides the file.
  * - kt_remove() and kt_claim() mark, unless that was done before. Besides marks they log only, for kt_remove(), that
  *   nodes of that subtree were shown and taken out.
- * - Which number each call on a tree, kt_notify(), kt_event() and kt_copy() fail with, and its cause (for -ENOMEM no
- *   contract can name one). kt_remove() and kt_claim() return -EMFILE only if a look found a node of the subtree full.
- * - Which number kt_enter(), kt_begin_read() and kt_begin_write() fail with, and that with -ENODEV a hold was tried;
- *   that kt_leave(), kt_break(), kt_restore(), kt_changed() and kt_shown() fail only with -EINVAL, and only if there is
- *   no such call.
+ * - Each call on a tree, kt_notify(), kt_event() and kt_copy() fail with the number that is documented for the cause,
+ *   and only then (for -ENOMEM no contract can name a cause). kt_remove() and kt_claim() return -EMFILE only if a look
+ *   found that a node of the subtree had the maximum of holds.
+ * - So do kt_enter(), kt_begin_read() and kt_begin_write(); if they return -ENODEV, a hold was tried. kt_leave(),
+ *   kt_break(), kt_restore(), kt_changed() and kt_shown() fail only with -EINVAL, and only if there is no such call.
  * - kt_clear() and kt_delete() fail with -EBUSY only for a tree with a file whose hiding has not yet seen nobody
  *   inside, and with nothing else.
  * - A handle that gets something new had nothing behind it; otherwise it is -EINVAL.
@@ -86,25 +93,26 @@
  *   (kt_dup() makes one from another thread's), and each that notifies (such as a driver's interrupt) its own post. If
  *   two share a hold, a removal may return with a callback inside.
  * - Calls that take a tree are made under one lock for each tree, which is yours, or by one thread. So are kt_clear()
- *   and kt_delete() of a tree. Calls that take a hold, a call, a post or an open file need no lock.
- * - A key belongs to one tree: in another tree it may name another node.
+ *   and kt_delete() of a tree. Calls that take a hold, a call, a post, an open file or a looker need no lock (but
+ *   kt_looker() takes the tree).
+ * - A key belongs to one tree: in another tree it may name another node (kt_keys.h reports it).
  * - Pointers are valid, lengths are those of what is there, a bool is 0 or 1, and no two arguments of a call overlap.
  * - malloc(), realloc() and free() belong to one allocator, which aligns to at least 8 bytes. No function is called in
  *   a signal handler, or between fork() and exec() in a program with threads.
  * - The processor has at least level x86-64-v2 (SSSE3 and SSE4.1 are used).
  * - If kt_enter() has returned -ENODEV, or kt_leave(), kt_break(), kt_clear() or kt_delete() has returned 1, wake the
- *   threads that wait in a removal or a hiding. The _wake helpers do so; kt_delete() has none. If a program releases a
- *   hold of a node that had the maximum of holds, it calls kt_clear_wake(), or kt_wake() afterwards: a removal needs a
- *   hold for a moment, and waits if there is no place for it.
+ *   threads that wait in a removal or a hiding. The _wake helpers do so; kt_delete() has none. (A removal needs a hold
+ *   for a moment, so if a node has the maximum of holds, it waits until kt_clear() has released one.) A looker is a hold
+ *   of the root, which nobody removes.
  * - After -EAGAIN of kt_hide(), call it again on that file until it returns 0, or call kt_unhide() or kt_remove():
  *   until then the tree cannot be freed. A callback that waits until its own file is hidden breaks its protection
  *   first. If two threads hide one file, the first kt_unhide() shows it for both, so they agree on who calls it;
  *   kt_stat() says whether the file is hidden.
  *
  * Built with AddressSanitizer or ThreadSanitizer (gcc, clang), a program gets a report if it uses a handle after
- * kt_delete(), a handle in two threads, or a tree without its lock (kt_check.h); and the compiler warns of unused
- * results, NULL arguments, and lengths larger than their buffers. MemorySanitizer reports all that the library writes
- * as uninitialized.
+ * kt_delete(), a handle in two threads, a tree without its lock, or a key of another tree (kt_check.h). The compiler
+ * warns of unused results, NULL arguments, and lengths larger than their buffers. MemorySanitizer reports all that the
+ * library writes as uninitialized.
  */
 #ifndef KERNFS_TREE_H
 #define KERNFS_TREE_H
@@ -182,6 +190,12 @@ struct kt_node_info {
     bool activated, doomed, hidden; /* doomed: marked for removal; hidden: by kt_hide() */
 };
 
+/* How many hold and use a node. */
+struct kt_node_counts {
+    uint32_t holds; /* its holds and open files, also those that are inside, and one more if it is hidden */
+    uint32_t users; /* those that are inside; a kt_enter() that fails counts for a moment */
+};
+
 /* How many changes a tree has logged. */
 struct kt_command_counts {
     uint64_t stored;    /* the commands in the log, 88 bytes each */
@@ -197,7 +211,8 @@ int32_t kt_version(void);
 KT_CALL(1) int32_t kt_new(void **at);
 
 /* Frees what is behind the handle: it releases a hold, ends a call first, or frees a tree. In a callback it ends the
- * call of that callback. Returns 0, or 1: wake the threads that wait in a removal or a hiding. -EBUSY, and nothing is
+ * call of that callback. Returns 0, or 1: wake the threads that wait in a removal or a hiding. It returns 1 if one may
+ * be waiting for the end of the call, and if the node had the maximum of holds until now. -EBUSY, and nothing is
  * freed: it is a tree with a file for which kt_hide() has returned -EAGAIN and not 0 since; call kt_hide(), kt_unhide()
  * or kt_remove() on that file until it returns 0.
  *
@@ -216,6 +231,12 @@ int32_t kt_delete(struct kt_handle handle);
  * because their slots are not reused. `holds`, 1 to KT_HOLDS_MAX: the holds and open files of one node at once, plus
  * one for a removal and one for a hiding. 0, -EINVAL (something is behind the handle, or these limits), -ENOMEM. */
 KT_CALL(1) int32_t kt_create_root(struct kt_handle *tree, uint32_t slots, uint32_t holds);
+
+/* The same tree, in which a looker finds paths without the lock. `looks`, 0 to KT_SLOTS_MAX: a node can be found so if
+ * its slot is below this number; each such slot takes 88 bytes more. (A new node gets the lowest free slot.) 0, -EINVAL
+ * (also if `looks` is too large), -ENOMEM. */
+KT_CALL(1)
+int32_t kt_create_root_with_looks(struct kt_handle *tree, uint32_t slots, uint32_t holds, uint32_t looks);
 
 /* The root's key: slot 0, generation 1. 0, -EINVAL. */
 KT_CALL(1, 2) int32_t kt_root(struct kt_handle *tree, struct kt_key *out);
@@ -243,9 +264,9 @@ int32_t kt_create_link(struct kt_handle *tree, struct kt_key parent, const void 
 /* Makes a node and everything below it live (kernfs_activate). 0, -ENOENT, -ENOMEM. */
 KT_CALL(1) int32_t kt_activate(struct kt_handle *tree, struct kt_key key);
 
-/* Moves a node into a directory, under a name (kernfs_rename_ns). 0, and in this order: -EINVAL (the root), -ENOENT,
- * -ENAMETOOLONG, -EINVAL (the name), -ENOTDIR, -ENOENT (not live; a hidden file too), -EINVAL (below itself), -EEXIST,
- * -ENOMEM. */
+/* Moves a node into a directory, under a name (kernfs_rename_ns). 0, also if it is there already; and in this order:
+ * -EINVAL (the root), -ENOENT (no such node or directory), -ENAMETOOLONG, -EINVAL (the name), -ENOTDIR, -ENOENT (the
+ * node or the directory is not live, or it is a hidden file), -EINVAL (into itself or below), -EEXIST, -ENOMEM. */
 KT_CALL(1) KT_TEXT(4, 5)
 int32_t kt_rename(struct kt_handle *tree, struct kt_key key, struct kt_key dir, const void *name, size_t length);
 
@@ -266,6 +287,10 @@ int64_t kt_next(struct kt_handle *tree, struct kt_key dir, const void *after, si
 /* Describes a node. 0, -ENOENT. */
 KT_CALL(1, 3) int32_t kt_stat(struct kt_handle *tree, struct kt_key key, struct kt_node_info *out);
 
+/* How many hold and use a node, also one that a removal waits for. Other threads may change both counts meanwhile, so
+ * they are for a person who looks why something waits. 0, -ENOENT. */
+KT_CALL(1, 3) int32_t kt_counts(struct kt_handle *tree, struct kt_key key, struct kt_node_counts *out);
+
 /* The directory of a node (kernfs_get_parent). 0, -ENOENT, -EINVAL (the root has none). */
 KT_CALL(1, 3) int32_t kt_parent(struct kt_handle *tree, struct kt_key key, struct kt_key *out);
 
@@ -284,6 +309,10 @@ KT_CALL(1) KT_ROOM(3, 4) int64_t kt_readlink(struct kt_handle *tree, struct kt_k
 /* A hold of a node (kernfs_get), behind a handle with nothing behind it. 0, and in this order: -EINVAL (something is
  * behind the handle), -ENOENT, -EMFILE (the node has the maximum of holds), -ENOMEM. */
 KT_CALL(1, 3) int32_t kt_hold(struct kt_handle *tree, struct kt_key key, struct kt_handle *hold);
+
+/* A looker of the tree, behind a handle with nothing behind it. It keeps a hold of the root, and may outlive the tree.
+ * 0, -EINVAL (something is behind the handle), -EMFILE (the root has the maximum of holds), -ENOMEM. */
+KT_CALL(1, 2) int32_t kt_looker(struct kt_handle *tree, struct kt_handle *looker);
 
 /* Removes a node and everything below it (kernfs_remove), as far as it can without waiting: it marks them all, so that
  * kt_enter() no longer succeeds there, and takes each node out of the tree that nobody is inside. 1: the node is out,
@@ -339,6 +368,20 @@ KT_CALL(1, 5) int32_t kt_open(struct kt_handle *tree, struct kt_key key, bool re
  * possible, and a removal needs it), -EBUSY (others changed the count 64 times: call it again), -ENOMEM. */
 KT_CALL(1, 2) int32_t kt_dup(struct kt_handle *hold, struct kt_handle *other);
 
+/* The live node at a path such as /devices/fan0 (kernfs_walk_and_get). It takes no lock and never waits. 0: the path
+ * led there at one moment of the call, after all changes that this looker has seen. -EAGAIN: it found nothing;
+ * kt_walk() under the lock says whether the node is there. It never finds a node that is hidden or not live, a name of
+ * more than 24 bytes, or a node whose slot has no words; and it may find nothing while others change the tree. */
+KT_CALL(1, 4) KT_TEXT(2, 3)
+int32_t kt_look(struct kt_handle *looker, const void *path, size_t length, struct kt_key *out);
+
+/* A hold of a node of the looker's tree (kernfs_get), without the lock, behind a handle with nothing behind it. 0: the
+ * node was in the tree when the hold was counted; kt_enter() says whether it is live. In this order: -EINVAL (something
+ * is behind the handle, or there is no looker), -ENOENT (the node is out of the tree, or the call that creates it has
+ * not returned), -EMFILE (only one more hold is possible, and a removal needs it), -EBUSY (others changed the count 64
+ * times: call it again), -ENOMEM. */
+KT_CALL(1, 3) int32_t kt_pin(struct kt_handle *looker, struct kt_key key, struct kt_handle *hold);
+
 /* Before a callback (kernfs_get_active). 0: the hold is now a call. -ENODEV: the node is not live, or it is hidden.
  * -EINVAL: there is no hold. After -ENODEV, wake the threads that wait in a removal or a hiding: the refused try was
  * counted for a moment. */
@@ -382,7 +425,7 @@ KT_CALL(1) KT_ROOM(3, 4) int64_t kt_copy(struct kt_handle *file, uint64_t offset
 KT_CALL(1) int32_t kt_begin_write(struct kt_handle *file);
 
 /* In a running call of the file: 1 if its event number differs from that of its last show, or if there was no show;
- * otherwise 0. */
+ * otherwise 0. -EINVAL outside a call. */
 KT_CALL(1) int32_t kt_changed(struct kt_handle *file);
 
 #ifdef __cplusplus

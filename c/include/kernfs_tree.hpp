@@ -180,13 +180,10 @@ public:
         std::swap(own_, other.own_);
         return *this;
     }
-    /* (It always wakes: a removal of a node that was full of holds may wait for one.) */
     ~hold()
     {
-        if (own_) {
-            (void)!kt_clear(own_.get());
+        if (own_ && kt_clear(own_.get()) == 1)
             lock_->wake();
-        }
     }
 
 protected:

@@ -49,9 +49,9 @@ KT_STEP(2) int32_t kt_bind_delete(struct kt_handle handle, struct kt_bind_lock *
 /* kt_leave() with its wake. A call that is broken is restored first. 0, -EINVAL (there is no call). */
 KT_STEP(1, 2) int32_t kt_bind_leave(struct kt_handle *call, struct kt_bind_lock *lock);
 
-/* Removes a node and everything below it, hides a file, or shows it again. Each sleeps until nobody is inside, for so
- * many milliseconds at most; below 0 means without limit. Returns what kt_remove(), kt_hide() and kt_unhide() return,
- * but never -EAGAIN; -ETIMEDOUT: somebody is still inside; then call it again. -EDEADLK: this thread has the lock. */
+/* Removes a node and everything below it, hides a file, or shows it again. Each sleeps until nobody is inside, for at
+ * most this number of milliseconds; below 0 there is no limit. Returns what kt_remove(), kt_hide() and kt_unhide()
+ * return, but never -EAGAIN. -ETIMEDOUT: somebody is still inside; call it again. -EDEADLK: this thread has the lock. */
 KT_CALL(1, 3)
 int32_t kt_bind_remove(struct kt_handle *tree, struct kt_key key, struct kt_bind_lock *lock, int64_t milliseconds);
 KT_CALL(1, 3)

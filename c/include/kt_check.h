@@ -5,8 +5,8 @@
  * Under AddressSanitizer and ThreadSanitizer (gcc, clang), each call first uses its handles, and the last byte of names
  * and paths. So they report a handle after kt_delete() and a text that is shorter than its length. ThreadSanitizer also
  * reports a handle that two threads use at once, and calls on a tree without its lock. It also learns what happens
- * before what (kt_told.h), and in which order locks are taken (kt_order.h). kt_delete() of a call aborts the program
- * with a message.
+ * before what (kt_told.h), and in which order locks are taken (kt_order.h). kt_delete() of a call, and a key of another
+ * tree (kt_keys.h), abort the program with a message.
  *
  * This tests nothing in the library. Without a sanitizer it is empty. */
 #include "kernfs_tree.h"
@@ -29,6 +29,7 @@
 #endif
 
 #include "kt_order.h"
+#include "kt_keys.h"
 #if defined(KT_ASAN) || defined(KT_TSAN)
 #include "kt_told.h"
 
@@ -36,6 +37,13 @@ static inline struct kt_handle *kt_used(struct kt_handle *handle)
 {
     kt_touch(handle->at);
     return handle;
+}
+
+/* A tree that a call with this key gets. */
+static inline struct kt_handle *kt_used_for(struct kt_handle *tree, struct kt_key key)
+{
+    kt_keys_check(kt_used(tree), key);
+    return tree;
 }
 
 /* The last byte of a text is there. */
@@ -64,8 +72,29 @@ static inline int32_t kt_clear_told(struct kt_handle *handle)
     kt_told_release(handle->at);
     kt_told_shown(handle->at, root); /* a tree's files, as it goes */
     answer = kt_clear(handle);
-    if (answer >= 0)
+    if (answer >= 0) {
         kt_told_empty(handle->at, false);
+        kt_keys_end(handle->at);
+    }
+    return answer;
+}
+
+KT_CALL(1)
+static inline int32_t kt_create_root_told(struct kt_handle *tree, uint32_t slots, uint32_t holds)
+{
+    int32_t answer = kt_create_root(kt_used(tree), slots, holds);
+    if (!answer)
+        kt_keys_begin(tree, slots);
+    return answer;
+}
+
+KT_CALL(1)
+static inline int32_t kt_create_root_with_looks_told(
+    struct kt_handle *tree, uint32_t slots, uint32_t holds, uint32_t looks)
+{
+    int32_t answer = kt_create_root_with_looks(kt_used(tree), slots, holds, looks);
+    if (!answer)
+        kt_keys_begin(tree, slots);
     return answer;
 }
 
@@ -88,7 +117,7 @@ static inline int32_t kt_delete_told(struct kt_handle handle)
 KT_CALL(1)
 static inline int32_t kt_hold_told(struct kt_handle *tree, struct kt_key key, struct kt_handle *hold)
 {
-    int32_t answer = kt_hold(kt_used(tree), key, kt_used(hold));
+    int32_t answer = kt_hold(kt_used_for(tree, key), key, kt_used(hold));
     if (!answer)
         kt_told_hold(tree, key, hold->at);
     return answer;
@@ -107,7 +136,7 @@ KT_CALL(1)
 static inline int32_t kt_open_told(struct kt_handle *tree, struct kt_key key, bool read, bool write,
                                    struct kt_handle *file)
 {
-    int32_t answer = kt_open(kt_used(tree), key, read, write, kt_used(file));
+    int32_t answer = kt_open(kt_used_for(tree, key), key, read, write, kt_used(file));
     if (!answer)
         kt_told_hold(tree, key, file->at);
     return answer;
@@ -116,13 +145,35 @@ static inline int32_t kt_open_told(struct kt_handle *tree, struct kt_key key, bo
 KT_CALL(1)
 static inline int32_t kt_event_open_told(struct kt_handle *tree, struct kt_key key, struct kt_handle *post)
 {
-    return kt_event_open(kt_used(tree), key, kt_used(post));
+    return kt_event_open(kt_used_for(tree, key), key, kt_used(post));
+}
+
+KT_CALL(1, 4)
+static inline int32_t kt_look_told(struct kt_handle *looker, const void *path, size_t length, struct kt_key *out)
+{
+    return kt_look(kt_used(looker), kt_there(path, length), length, out);
+}
+
+/* The nodes above it are not known without the tree's lock, so its steps are taken for those of any node. */
+KT_CALL(1)
+static inline int32_t kt_pin_told(struct kt_handle *looker, struct kt_key key, struct kt_handle *hold)
+{
+    int32_t answer = kt_pin(kt_used(looker), key, kt_used(hold));
+    if (!answer)
+        kt_told_delete(hold->at);
+    return answer;
+}
+
+KT_CALL(1)
+static inline int32_t kt_looker_told(struct kt_handle *tree, struct kt_handle *looker)
+{
+    return kt_looker(kt_used(tree), kt_used(looker));
 }
 
 KT_CALL(1)
 static inline int32_t kt_activate_told(struct kt_handle *tree, struct kt_key key)
 {
-    kt_touch(tree->at);
+    kt_used_for(tree, key);
     kt_told_shown(tree->at, key);
     return kt_activate(tree, key);
 }
@@ -131,56 +182,114 @@ KT_CALL(1)
 static inline int32_t kt_rename_told(struct kt_handle *tree, struct kt_key key, struct kt_key dir, const void *name,
                                      size_t length)
 {
-    kt_touch(tree->at);
+    kt_used_for(tree, key);
     kt_told_make_one(tree->at);
-    return kt_rename(tree, key, dir, kt_there(name, length), length);
+    return kt_rename(kt_used_for(tree, dir), key, dir, kt_there(name, length), length);
+}
+
+/* The result of a call that gave out a key of the tree if it is 0. */
+static inline int32_t kt_given(const struct kt_handle *tree, int32_t answer, const struct kt_key *out)
+{
+    if (!answer)
+        kt_keys_give(tree->at, *out);
+    return answer;
 }
 
 KT_CALL(1, 6)
 static inline int32_t kt_create_dir_told(struct kt_handle *tree, struct kt_key parent, const void *name, size_t length,
                                          bool live, struct kt_key *out)
 {
-    return kt_create_dir(kt_used(tree), parent, kt_there(name, length), length, live, out);
+    int32_t answer = kt_create_dir(kt_used_for(tree, parent), parent, kt_there(name, length), length, live, out);
+    return kt_given(tree, answer, out);
 }
 
 KT_CALL(1, 8)
 static inline int32_t kt_create_file_told(struct kt_handle *tree, struct kt_key parent, const void *name, size_t length,
                                           uint16_t mode, uint64_t tag, bool live, struct kt_key *out)
 {
-    return kt_create_file(kt_used(tree), parent, kt_there(name, length), length, mode, tag, live, out);
+    int32_t answer =
+        kt_create_file(kt_used_for(tree, parent), parent, kt_there(name, length), length, mode, tag, live, out);
+    return kt_given(tree, answer, out);
 }
 
 KT_CALL(1, 7)
 static inline int32_t kt_create_link_told(struct kt_handle *tree, struct kt_key parent, const void *name, size_t length,
                                           struct kt_key target, bool live, struct kt_key *out)
 {
-    return kt_create_link(kt_used(tree), parent, kt_there(name, length), length, target, live, out);
+    int32_t answer;
+    kt_used_for(tree, target);
+    answer = kt_create_link(kt_used_for(tree, parent), parent, kt_there(name, length), length, target, live, out);
+    return kt_given(tree, answer, out);
 }
 
 KT_CALL(1, 5)
 static inline int32_t kt_find_told(struct kt_handle *tree, struct kt_key dir, const void *name, size_t length,
                                    struct kt_key *out)
 {
-    return kt_find(kt_used(tree), dir, kt_there(name, length), length, out);
+    int32_t answer = kt_find(kt_used_for(tree, dir), dir, kt_there(name, length), length, out);
+    return kt_given(tree, answer, out);
 }
 
 KT_CALL(1, 4)
 static inline int32_t kt_walk_told(struct kt_handle *tree, const void *path, size_t length, struct kt_key *out)
 {
-    return kt_walk(kt_used(tree), kt_there(path, length), length, out);
+    int32_t answer = kt_walk(kt_used(tree), kt_there(path, length), length, out);
+    return kt_given(tree, answer, out);
+}
+
+KT_CALL(1, 3)
+static inline int32_t kt_stat_told(struct kt_handle *tree, struct kt_key key, struct kt_node_info *out)
+{
+    return kt_stat(kt_used_for(tree, key), key, out);
+}
+
+KT_CALL(1, 3)
+static inline int32_t kt_counts_told(struct kt_handle *tree, struct kt_key key, struct kt_node_counts *out)
+{
+    return kt_counts(kt_used_for(tree, key), key, out);
+}
+
+KT_CALL(1, 3)
+static inline int32_t kt_parent_told(struct kt_handle *tree, struct kt_key key, struct kt_key *out)
+{
+    return kt_parent(kt_used_for(tree, key), key, out);
+}
+
+KT_CALL(1)
+static inline int64_t kt_name_told(struct kt_handle *tree, struct kt_key key, void *name, size_t size)
+{
+    return kt_name(kt_used_for(tree, key), key, name, size);
+}
+
+KT_CALL(1)
+static inline int64_t kt_path_told(struct kt_handle *tree, struct kt_key key, void *path, size_t size)
+{
+    return kt_path(kt_used_for(tree, key), key, path, size);
+}
+
+KT_CALL(1)
+static inline int64_t kt_readlink_told(struct kt_handle *tree, struct kt_key key, void *text, size_t size)
+{
+    return kt_readlink(kt_used_for(tree, key), key, text, size);
+}
+
+KT_CALL(1)
+static inline int32_t kt_claim_told(struct kt_handle *tree, struct kt_key key)
+{
+    return kt_claim(kt_used_for(tree, key), key);
 }
 
 KT_CALL(1)
 static inline int64_t kt_next_told(struct kt_handle *tree, struct kt_key dir, const void *after, size_t length,
                                    void *name, size_t size)
 {
-    return kt_next(kt_used(tree), dir, kt_there(after, length), length, name, size);
+    return kt_next(kt_used_for(tree, dir), dir, kt_there(after, length), length, name, size);
 }
 
 KT_CALL(1)
 static inline int32_t kt_remove_told(struct kt_handle *tree, struct kt_key key)
 {
-    int32_t answer = kt_remove(kt_used(tree), key);
+    int32_t answer = kt_remove(kt_used_for(tree, key), key);
     if (answer >= 0)
         kt_told_gone(tree->at, key);
     return answer;
@@ -189,7 +298,7 @@ static inline int32_t kt_remove_told(struct kt_handle *tree, struct kt_key key)
 KT_CALL(1)
 static inline int32_t kt_hide_told(struct kt_handle *tree, struct kt_key key)
 {
-    int32_t answer = kt_hide(kt_used(tree), key);
+    int32_t answer = kt_hide(kt_used_for(tree, key), key);
     if (answer >= 0)
         kt_told_gone(tree->at, key);
     return answer;
@@ -198,7 +307,7 @@ static inline int32_t kt_hide_told(struct kt_handle *tree, struct kt_key key)
 KT_CALL(1)
 static inline int32_t kt_unhide_told(struct kt_handle *tree, struct kt_key key)
 {
-    kt_touch(tree->at);
+    kt_used_for(tree, key);
     kt_told_shown(tree->at, key);
     return kt_unhide(tree, key);
 }
@@ -248,12 +357,17 @@ static inline int32_t kt_begin_read_told(struct kt_handle *file, uint64_t offset
 }
 
 #define kt_new kt_new_told
+#define kt_create_root kt_create_root_told
+#define kt_create_root_with_looks kt_create_root_with_looks_told
 #define kt_clear kt_clear_told
 #define kt_delete kt_delete_told
 #define kt_hold kt_hold_told
 #define kt_dup kt_dup_told
 #define kt_open kt_open_told
 #define kt_event_open kt_event_open_told
+#define kt_look kt_look_told
+#define kt_looker kt_looker_told
+#define kt_pin kt_pin_told
 #define kt_activate kt_activate_told
 #define kt_rename kt_rename_told
 #define kt_next kt_next_told
@@ -265,19 +379,19 @@ static inline int32_t kt_begin_read_told(struct kt_handle *file, uint64_t offset
 #define kt_remove kt_remove_told
 #define kt_hide kt_hide_told
 #define kt_unhide kt_unhide_told
+#define kt_stat kt_stat_told
+#define kt_counts kt_counts_told
+#define kt_parent kt_parent_told
+#define kt_name kt_name_told
+#define kt_path kt_path_told
+#define kt_readlink kt_readlink_told
+#define kt_claim kt_claim_told
 #define kt_leave kt_leave_told
 #define kt_break kt_break_told
 #define kt_enter kt_enter_told
 #define kt_begin_read kt_begin_read_told
 #define kt_begin_write kt_begin_write_told
-#define kt_create_root(tree, ...) kt_create_root(kt_used(tree), __VA_ARGS__)
 #define kt_root(tree, ...) kt_root(kt_used(tree), __VA_ARGS__)
-#define kt_stat(tree, ...) kt_stat(kt_used(tree), __VA_ARGS__)
-#define kt_parent(tree, ...) kt_parent(kt_used(tree), __VA_ARGS__)
-#define kt_name(tree, ...) kt_name(kt_used(tree), __VA_ARGS__)
-#define kt_path(tree, ...) kt_path(kt_used(tree), __VA_ARGS__)
-#define kt_readlink(tree, ...) kt_readlink(kt_used(tree), __VA_ARGS__)
-#define kt_claim(tree, ...) kt_claim(kt_used(tree), __VA_ARGS__)
 #define kt_compact(...) kt_compact(kt_used(__VA_ARGS__))
 #define kt_commands(tree, ...) kt_commands(kt_used(tree), __VA_ARGS__)
 #define kt_restore(...) kt_restore(kt_used(__VA_ARGS__))

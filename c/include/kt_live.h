@@ -128,10 +128,10 @@ KT_MUST_USE KT_LIVE_CALL int32_t kt_live_publish(struct kt_live *live, const cha
                                                  struct kt_key *out);
 
 /* The same for a device of a plug-in. Once it is unpublished and none of its callbacks is on any stack, `release` runs
- * with `data`, once: it may dlclose() the plug-in. It runs in the thread of the kt_live_unpublish() that returned 1. If
- * that was called in a callback of this device, it runs at the end of the kt_live_write() or the like that began the
- * (outermost) callback, and so not in the plug-in, if that call is the host's; otherwise at the end of
- * kt_live_unpublish(). No C++ exception whose type the plug-in defines may leave a callback of such a device. */
+ * with `data`, once: it may dlclose() the plug-in. It runs in the thread of the kt_live_unpublish() that returns 1, at
+ * the end of that call. But if a callback of this device called that, it runs later: at the end of the kt_live_write()
+ * or the like that began the outermost such callback. So that call must be in the host's code, not in the plug-in's.
+ * No C++ exception whose type the plug-in defines may leave a callback of such a device. */
 typedef void kt_live_release(void *data);
 KT_MUST_USE KT_LIVE_CALL int32_t kt_live_publish_plugin(struct kt_live *live, const char *path,
                                                         const struct kt_attribute *attributes, size_t count,
@@ -142,8 +142,9 @@ KT_MUST_USE KT_LIVE_CALL int32_t kt_live_publish_plugin(struct kt_live *live, co
  * the tree, and no callback ever starts there. It sleeps until then. Watches of a node there become readable before.
  *
  * 1: this call was the first to ask for it, and no callback is in the device's code: the caller may free the memory of
- * the device and the attributes. 0: another call was first, and gets the 1; this one frees nothing. -ENOENT: no device has this key: it was unpublished before, or never published.
- * -ENOMEM, or -EMFILE (other calls hold a node there KT_HOLDS_MAX times): nothing has changed; call it again.
+ * the device and the attributes. 0: another call was first, and gets the 1; this one frees nothing. -ENOENT: no device
+ * has this key, because it was unpublished before, or never published. -ENOMEM, or -EMFILE (other calls hold a node
+ * there KT_HOLDS_MAX times): nothing has changed; call it again.
  *
  * A callback may unpublish its own device, or one above it (device_remove_file_self). Then it gets 1 when all callbacks
  * there have ended, except those that its thread runs. It still runs in the device's code: after the free() it must no
@@ -159,15 +160,15 @@ KT_MUST_USE KT_LIVE_CALL int32_t kt_live_publish_plugin(struct kt_live *live, co
  * kt_live_inside() shows it. */
 KT_MUST_USE KT_LIVE_CALL int32_t kt_live_unpublish(struct kt_live *live, struct kt_key key);
 
-/* The same, and with 1 `device` gets what was published; otherwise it stays as it was. So a program needs no list of its
- * devices. */
+/* The same, and if it returns 1, `device` gets what was published; otherwise it stays as it was. So a program needs no
+ * list of its devices. */
 KT_MUST_USE KT_LIVE_CALL int32_t kt_live_take(struct kt_live *live, struct kt_key key, void **device);
 
 /* The same for the device whose directory is at a path. Also -EINVAL (the form of the path), -ENOENT, -ENOTDIR. */
 KT_MUST_USE KT_LIVE_CALL int32_t kt_live_unpublish_at(struct kt_live *live, const char *path, void **device);
 
-/* kt_live_take() with a time limit, by the system's clock; `device` may be NULL. -ETIMEDOUT: somebody is still inside then. Everything
- * is marked and stays so. Call it again: the first call after that gets 1. */
+/* kt_live_take() with a time limit, by the system's clock; `device` may be NULL. -ETIMEDOUT: somebody is still inside
+ * then. Everything is marked and stays so. Call this or kt_live_unpublish() again: the first such call gets 1. */
 KT_MUST_USE KT_LIVE_CALL int32_t kt_live_unpublish_for(struct kt_live *live, struct kt_key key, unsigned milliseconds,
                                                        void **device);
 
@@ -175,8 +176,8 @@ KT_MUST_USE KT_LIVE_CALL int32_t kt_live_unpublish_for(struct kt_live *live, str
  * returns. So a program needs no other lock to do something with each device: kt_live_list() names them, and this
  * leaves out those that are gone meanwhile.
  *
- * What the function returned; or it did not run: -EINVAL, -ENOTDIR (the path), -ENOENT (no device is there, or it is
- * being removed), -ENODEV, -EMFILE, -ENOMEM. */
+ * Returns what the function returned. If it did not run: -EINVAL, -ENOTDIR (the path), -ENOENT (no device is there, or
+ * it is being removed), -ENODEV, -EMFILE, -ENOMEM. */
 typedef int64_t kt_live_function(void *device, void *data);
 KT_LIVE_CALL int64_t kt_live_run(struct kt_live *live, const char *path, kt_live_function *function, void *data);
 
@@ -190,13 +191,14 @@ KT_LIVE_CALL struct kt_key kt_live_self(struct kt_live *live);
  * number of bytes. A longer text is cut. If there is room, a zero byte follows, which is not counted: KT_PAGE_SIZE is
  * always enough.
  *
- * Below 0: what the show returned; or it did not run: -EINVAL (the path, or a link), -ENOENT, -ENOTDIR, -EISDIR,
+ * Below 0: what the show returned. If it did not run: -EINVAL (the path, or a link), -ENOENT, -ENOTDIR, -EISDIR,
  * -ENODEV (it is being removed, or hidden), -EACCES (no bit of 0444), -EIO (a file that the program created with other
  * calls), -EMFILE (KT_HOLDS_MAX threads use it), -ENOMEM. */
 KT_LIVE_CALL int64_t kt_live_read(struct kt_live *live, const char *path, void *out, size_t size);
 
 /* Writes to the attribute at a path: runs its store with at most the first KT_PAGE_SIZE bytes (open, write, close).
- * What the store returned; 0 for no bytes, and then it did not run; the errors of kt_live_read(), -EACCES for 0222. */
+ * Returns what the store returned; 0 for no bytes, and then it did not run; the errors of kt_live_read(), with -EACCES
+ * if the mode has no bit of 0222. */
 KT_LIVE_CALL int64_t kt_live_write(struct kt_live *live, const char *path, const char *bytes, size_t length);
 
 /* Opens the attribute at a path, for a thread that reads or writes it often: the calls on an open file take no lock and

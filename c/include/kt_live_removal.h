@@ -239,8 +239,6 @@ static inline void kt_live_forget(struct kt_live *live, struct kt_live_device *d
 static inline void kt_live_doze(struct kt_live *live, int64_t until)
 {
     struct timespec at;
-    if (!kt_may_sleep(&live->lock))
-        return;
     if (until == INT64_MAX) {
         pthread_cond_wait(&live->lock.left, &live->lock.mutex);
         return;
@@ -293,6 +291,7 @@ static inline int32_t kt_live_take_out(struct kt_live *live, struct kt_key key, 
     struct kt_live_device *device = kt_live_find(live, key);
     int32_t answer = device ? kt_claim(&live->tree, key) : -ENOENT; /* marks it */
     bool is_first;
+    kt_keys_check(&live->tree, key);
     if (!device || (answer < 0 && answer != -ENOENT)) /* (-ENOENT of a device: it went with one above it) */
         return answer;
     live->age++;

@@ -170,7 +170,8 @@ static inline void kt_live_drop_kept(struct kt_live *live)
     for (size_t i = 0; i < KT_LIVE_KEPT; i++) {
         if (!live->kept[i].hold.at)
             continue;
-        kt_clear(&live->kept[i].hold);
+        if (kt_clear(&live->kept[i].hold) == 1)
+            pthread_cond_broadcast(&live->lock.left);
         kt_delete(live->kept[i].hold);
         live->kept[i].hold.at = NULL;
     }
@@ -204,7 +205,8 @@ static inline void kt_live_put_hold(struct kt_live *live, struct kt_live_call *c
         kept->hold = call->file;
         return;
     }
-    kt_clear(&call->file);
+    if (kt_clear(&call->file) == 1)
+        pthread_cond_broadcast(&live->lock.left);
     kt_delete(call->file);
 }
 

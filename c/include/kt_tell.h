@@ -9,9 +9,9 @@
 #include <string.h>
 
 /* What a negative result means, as a text without a newline; for other numbers too. */
-static inline const char *kt_strerror(int64_t answer)
+static inline const char *kt_strerror(int64_t number)
 {
-    switch (answer) {
+    switch (number) {
     case -EACCES:
         return "the mode of the file, or how it was opened, does not allow it";
     case -EAGAIN:
@@ -20,6 +20,8 @@ static inline const char *kt_strerror(int64_t answer)
         return "no descriptor of a watch here";
     case -EBUSY:
         return "in use: a file is being hidden, or others came between";
+    case -EDEADLK:
+        return "it would wait for its own thread, or callbacks wait for each other";
     case -EEXIST:
         return "the name is taken";
     case -EINVAL:
@@ -45,11 +47,11 @@ static inline const char *kt_strerror(int64_t answer)
     case -EOVERFLOW:
         return "the event number is at its end";
     case -ERANGE:
-        return "the room is too small";
+        return "the buffer is too small";
     case -ETIMEDOUT:
         return "somebody was inside all that time";
     default:
-        return answer < 0 ? "an error that the library does not answer" : "done";
+        return number < 0 ? "an error that the library does not return" : "done";
     }
 }
 
@@ -98,25 +100,32 @@ static inline int32_t kt_list(struct kt_handle *tree, struct kt_key dir, struct 
 static inline int32_t kt_dump_line(struct kt_handle *tree, const struct kt_child *at, int depth, FILE *out)
 {
     struct kt_node_info stat;
+    struct kt_node_counts counts;
     struct kt_child to;
     int64_t length;
     int32_t answer = kt_stat(tree, at->key, &stat);
+    if (!answer)
+        answer = kt_counts(tree, at->key, &counts);
     if (answer)
         return answer;
     fprintf(out, "%*s%s", 2 * depth, "", at->name);
     if (stat.kind == KT_DIR)
-        fprintf(out, "/\n");
+        fprintf(out, "/");
     else if (stat.kind == KT_FILE)
-        fprintf(out, " 0%o tag %llu\n", (unsigned)stat.mode, (unsigned long long)stat.tag);
+        fprintf(out, " 0%o tag %llu", (unsigned)stat.mode, (unsigned long long)stat.tag);
     else if ((length = kt_name(tree, stat.target, to.name, KT_NAME_MAX)) >= 0)
-        fprintf(out, " -> %.*s, slot %lu\n", (int)length, to.name, (unsigned long)stat.target.slot);
+        fprintf(out, " -> %.*s, slot %lu", (int)length, to.name, (unsigned long)stat.target.slot);
     else
-        fprintf(out, " -> what is gone\n");
+        fprintf(out, " -> what is gone");
+    if (counts.holds)
+        fprintf(out, ", holds %lu, inside %lu", (unsigned long)counts.holds, (unsigned long)counts.users);
+    fprintf(out, "\n");
     return 0;
 }
 
 /* Writes the live nodes below a directory, a line each, indented below its directory's: a directory with a slash, a
- * file with its mode and tag, a link with its target's name and slot. 0, -ENOENT, -ENOTDIR, -ENOMEM. */
+ * file with its mode and tag, a link with its target's name and slot. If a node is held, its line says how often, and
+ * how many of the holds are inside. 0, -ENOENT, -ENOTDIR, -ENOMEM. */
 static inline int32_t kt_dump(struct kt_handle *tree, struct kt_key top, FILE *out)
 {
     struct kt_key dir = top;

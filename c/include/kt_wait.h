@@ -23,15 +23,13 @@
 #include <pthread.h>
 #include <time.h>
 
-/* The lock of a tree, and the condition for which its removals and hidings wait. A removal that waits sets `is_asked`:
- * then the next release of a hold wakes it as well. */
+/* The lock of a tree, and the condition for which its removals and hidings wait. */
 struct kt_lock {
     pthread_mutex_t mutex;
     pthread_cond_t left;
-    bool is_asked;
 };
 
-#define KT_LOCK_INIT { PTHREAD_MUTEX_INITIALIZER, PTHREAD_COND_INITIALIZER, false }
+#define KT_LOCK_INIT { PTHREAD_MUTEX_INITIALIZER, PTHREAD_COND_INITIALIZER }
 
 /* The same for a lock in memory that is allocated later. When the lock ends, no thread may have it or wait in it. 0, or
  * a negative errno of pthread_mutex_init() or pthread_cond_init(). */
@@ -39,7 +37,6 @@ KT_CALL(1)
 static inline int32_t kt_lock_init(struct kt_lock *lock)
 {
     int answer = pthread_mutex_init(&lock->mutex, NULL);
-    lock->is_asked = false;
     if (answer)
         return -answer;
     answer = pthread_cond_init(&lock->left, NULL);
@@ -59,17 +56,8 @@ static inline void kt_lock_destroy(struct kt_lock *lock)
 static inline void kt_wake(struct kt_lock *lock)
 {
     pthread_mutex_lock(&lock->mutex);
-    __atomic_store_n(&lock->is_asked, false, __ATOMIC_SEQ_CST);
     pthread_cond_broadcast(&lock->left);
     pthread_mutex_unlock(&lock->mutex);
-}
-
-/* Under the lock, after kt_remove() has returned -EAGAIN: whether to sleep now. A removal needs a hold of each node for
- * a moment, and waits if a node has the maximum of holds. So the thread first asks kt_clear_wake() for a wake, and then
- * calls kt_remove() once more: that call finds what was released before, and a later release wakes the thread. */
-static inline bool kt_may_sleep(struct kt_lock *lock)
-{
-    return __atomic_exchange_n(&lock->is_asked, true, __ATOMIC_SEQ_CST);
 }
 
 /* kt_enter(), kt_leave() and kt_break(), with the wakes that are due after them. */
@@ -105,9 +93,10 @@ static inline int32_t kt_break_wake(struct kt_handle *call, struct kt_lock *lock
 static inline int32_t kt_clear_wake(struct kt_handle *handle, struct kt_lock *lock)
 {
     int32_t answer = kt_clear(handle);
-    if (answer == 1 || (!answer && __atomic_load_n(&lock->is_asked, __ATOMIC_SEQ_CST)))
-        kt_wake(lock);
-    return answer < 0 ? answer : 0;
+    if (answer != 1)
+        return answer;
+    kt_wake(lock);
+    return 0;
 }
 
 /* (What a thread that is cancelled in a wait does with the lock, which it then has.) */
@@ -125,9 +114,8 @@ static inline int32_t kt_until_done(int32_t (*step)(struct kt_handle *tree, stru
     pthread_mutex_lock(&lock->mutex);
     pthread_cleanup_push(kt_unlock_of, lock);
     for (int waited = 0; (answer = step(tree, key)) == -EAGAIN && waited != ETIMEDOUT;)
-        if (kt_may_sleep(lock))
-            waited = until ? pthread_cond_timedwait(&lock->left, &lock->mutex, until)
-                           : pthread_cond_wait(&lock->left, &lock->mutex);
+        waited = until ? pthread_cond_timedwait(&lock->left, &lock->mutex, until)
+                       : pthread_cond_wait(&lock->left, &lock->mutex);
     pthread_cleanup_pop(1);
     return answer == -EAGAIN ? -ETIMEDOUT : answer;
 }
@@ -201,8 +189,7 @@ static inline int32_t kt_remove_claimed(struct kt_handle *tree, struct kt_key ke
     pthread_setcancelstate(PTHREAD_CANCEL_DISABLE, &before);
     while ((answer = kt_remove(tree, key)) == -EAGAIN || answer == -ENOMEM) {
         if (answer == -EAGAIN) {
-            if (kt_may_sleep(lock))
-                pthread_cond_wait(&lock->left, &lock->mutex);
+            pthread_cond_wait(&lock->left, &lock->mutex);
             continue;
         }
         pthread_mutex_unlock(&lock->mutex);
@@ -239,7 +226,7 @@ static inline int32_t kt_remove_self_wait(struct kt_handle *tree, struct kt_hand
             kt_restore(call);
         }
     } else {
-        answer = claimed == -ENOENT ? kt_remove(tree, key) : claimed; /* 0 where it was gone */
+        answer = claimed == -ENOENT ? kt_remove(tree, key) : claimed; /* 0 if it was gone */
     }
     pthread_mutex_unlock(&lock->mutex);
     return answer < 0 ? answer : claimed == 0;

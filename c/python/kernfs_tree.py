@@ -104,16 +104,16 @@ class Tree(_Owner):
         return key
 
     def _text(self, name, key):
-        room = 4096
+        size = 4096
         while True:
-            text = ctypes.create_string_buffer(room)
+            text = ctypes.create_string_buffer(size)
             try:
-                length = self._call(name, key, text, room)
+                length = self._call(name, key, text, size)
                 return os.fsdecode(text.raw[:length])
             except KtError as refused:
                 if refused.errno != errno.ERANGE:
                     raise
-                room *= 4
+                size *= 4
 
     @staticmethod
     def _named(name):
@@ -318,7 +318,7 @@ class File(Hold):
     def __exit__(self, *_):
         self.close()
 
-    def read(self, show, offset=0, room=PAGE_SIZE):
+    def read(self, show, offset=0, size=PAGE_SIZE):
         """What show() returns, from an offset, as bytes; if it raises an exception, there is no text."""
         if self._begin("begin_read", offset) == 1:
             try:
@@ -326,8 +326,8 @@ class File(Hold):
                 self._call("shown", text, len(text))
             finally:
                 self._step("leave")
-        out = ctypes.create_string_buffer(room)
-        length = self._call("copy", offset, out, room)
+        out = ctypes.create_string_buffer(size)
+        length = self._call("copy", offset, out, size)
         return out.raw[:length]
 
     def write(self, data, store):

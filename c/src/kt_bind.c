@@ -83,23 +83,14 @@ EXPORTED int32_t kt_bind_enter(struct kt_handle *hold, struct kt_bind_lock *lock
 
 EXPORTED int32_t kt_bind_break(struct kt_handle *call, struct kt_bind_lock *lock) { return after(kt_break(call), lock); }
 
-/* The result of what freed a handle. It always wakes: a removal of a node that was full of holds may wait for one. */
-static int32_t freed(int32_t answer, struct kt_bind_lock *lock)
-{
-    if (answer < 0)
-        return answer;
-    kt_bind_wake(lock);
-    return 0;
-}
-
 EXPORTED int32_t kt_bind_clear(struct kt_handle *handle, struct kt_bind_lock *lock)
 {
-    return freed(kt_clear(handle), lock);
+    return after(kt_clear(handle), lock);
 }
 
 EXPORTED int32_t kt_bind_delete(struct kt_handle handle, struct kt_bind_lock *lock)
 {
-    return freed(kt_delete(handle), lock);
+    return after(kt_delete(handle), lock);
 }
 
 EXPORTED int32_t kt_bind_leave(struct kt_handle *call, struct kt_bind_lock *lock)

@@ -21,10 +21,9 @@ static int64_t show_target(void *device, const struct kt_attribute *attribute, c
 static int64_t store_target(void *device, const struct kt_attribute *attribute, const char *bytes, size_t length)
 {
     struct fan *fan = device;
-    int number = atoi(bytes); /* a zero byte follows the bytes */
-    if (number < 0 || number > 100)
+    if (length > 4)
         return -EINVAL; /* the writer gets it */
-    atomic_store(&fan->target, number);
+    atomic_store(&fan->target, atoi(bytes)); /* a zero byte follows the bytes */
     (void)!kt_live_notify(live, kt_live_self(live), attribute->name);
     return (int64_t)length;
 }
@@ -58,7 +57,6 @@ int main(void)
     fd = kt_live_watch(live, "/fan0/target");
     if (fd < 0 || kt_live_write(live, "/fan0/target", "40", 2) != 2 || pthread_create(&thread, NULL, monitor, NULL))
         return 1;
-    printf("the writer: %s\n", kt_live_write(live, "/fan0/target", "400", 3) == -EINVAL ? "refused" : "?");
     while (poll(&(struct pollfd){.fd = fd, .events = POLLIN}, 1, 0) == 1)
         poll(NULL, 0, 1); /* the monitor has not read the descriptor yet */
     if (kt_live_unpublish(live, key) != 1)
@@ -66,8 +64,7 @@ int main(void)
     pthread_join(thread, NULL);
     return kt_live_unwatch(live, fd) || kt_live_delete(live);
 }
-/* It prints, in this order or with the first two lines swapped:
-the writer: refused
+/* It prints:
 the monitor: 40
 the monitor: the fan is gone
 */

@@ -69,6 +69,10 @@ static void dumps(void)
     TRY(kt_create_dir(&tree, dir, "zero", 4, true, &key), 0);
     TRY(strcmp(dumped(root, 0), "d/\n  f 0644 tag 7\n  sub/\n    deep 0400 tag 9\n  zero/\nl -> f, slot 2\n"), 0);
     TRY(strcmp(dumped(folder, 0), "deep 0400 tag 9\n"), 0);
+    TRY(kt_hold(&tree, folder, &hold), 0);
+    TRY(kt_enter(&hold), 0);
+    TRY(strcmp(dumped(dir, 0), "f 0644 tag 7\nsub/, holds 1, inside 1\n  deep 0400 tag 9\nzero/\n"), 0);
+    TRY(kt_clear(&hold), 0);
     TRY(strcmp(dumped(key, 0), ""), 0);
     TRY(strcmp(dumped(file, -ENOTDIR), ""), 0);
     TRY(kt_remove(&tree, key) < 0, 0);
@@ -269,6 +273,58 @@ static void removes_what_is_full(void)
     TRY(kt_clear_wake(&hold, &lock), 0);
 }
 
+/* The node has this number of holds, and `users` of them are inside. */
+static void counted(struct kt_handle *of, uint32_t holds, uint32_t users)
+{
+    struct kt_node_counts counts = {99, 99};
+    TRY(kt_counts(of, file, &counts), 0);
+    TRY(counts.holds, holds);
+    TRY(counts.users, users);
+}
+
+/* What frees a node's last place returns 1: somebody may wait for it. */
+static void says_that_a_node_was_full(void)
+{
+    struct kt_handle third;
+    struct kt_node_counts counts = {99, 99};
+    TRY(kt_create_file(&small, root, "g", 1, 0644, 0, true, &file), 0);
+    counted(&small, 0, 0);
+    TRY(kt_hold(&small, file, &hold), 0);
+    TRY(kt_dup(&hold, &other), -EMFILE); /* kt_dup() leaves the last place to the tree */
+    TRY(kt_hold(&small, file, &other), 0);
+    TRY(kt_enter(&other), 0);
+    counted(&small, 2, 1);
+    TRY(kt_clear(&other), 1); /* nobody waits for its call, but it had the last place */
+    counted(&small, 1, 0);
+    TRY(kt_clear(&hold), 0);
+    TRY(kt_hold(&small, file, &hold), 0);
+    TRY(kt_new(&third.at), 0);
+    TRY(kt_hold(&small, file, &third), 0);
+    TRY(kt_delete(third), 1);
+    TRY(kt_clear(&hold), 0);
+    TRY(kt_counts(&small, (struct kt_key){file.slot, file.generation + 1}, &counts), -ENOENT);
+    TRY(kt_counts(&hold, file, &counts), -EINVAL);
+    TRY(counts.holds, 99);
+}
+
+/* A marked node is full by what hides it. A removal shows it first, and then has a place. */
+static void shows_what_is_full(void)
+{
+    TRY(kt_clear(&small), 0);
+    TRY(kt_create_root(&small, 4, 3), 0);
+    TRY(kt_create_file(&small, root, "h", 1, 0644, 0, true, &file), 0);
+    TRY(kt_hold(&small, file, &hold), 0);
+    TRY(kt_enter(&hold), 0);
+    TRY(kt_hide(&small, file), -EAGAIN);
+    TRY(kt_remove(&small, file), -EAGAIN);
+    TRY(kt_hold(&small, file, &other), 0);
+    counted(&small, 3, 1);
+    TRY(kt_leave(&hold), 1);
+    TRY(kt_remove(&small, file), 1);
+    TRY(kt_clear(&other), 0);
+    TRY(kt_clear(&hold), 0);
+}
+
 int main(void)
 {
     TRY(kt_new(&tree.at), 0);
@@ -293,6 +349,8 @@ int main(void)
     clears_inside();
     removes_itself_too_late();
     removes_what_is_full();
+    says_that_a_node_was_full();
+    shows_what_is_full();
     TRY(kt_delete(small), 0);
     TRY(kt_delete(other), 0);
     TRY(kt_delete(hold), 0);

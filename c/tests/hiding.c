@@ -90,7 +90,7 @@ static void hidden_in_use(struct kt_key shy)
     TRY(kt_hide(&own, shy), -EMFILE); /* a hidden file keeps a hold */
     TRY(kt_enter(&hold), 0);
     TRY(kt_leave(&hold), 0);
-    TRY(kt_clear(&nothing), 0);
+    TRY(kt_clear(&nothing), 1); /* it had the last place */
     TRY(kt_clear(&other), 0);
 }
 

@@ -515,7 +515,8 @@ static void full(void)
         TRY(raised(fd), -1);
         TRY(kt_live_read(live, "/fan0/input", text, sizeof text) > 0, 1);
     }
-    for (size_t i = 0; i < KT_HOLDS_MAX; i++)
+    TRY(kt_delete(all[0]), 1); /* it had the last place */
+    for (size_t i = 1; i < KT_HOLDS_MAX; i++)
         wrong += kt_delete(all[i]);
     TRY(wrong, 0);
     TRY(kt_live_unpublish(live, fan.key), 1);

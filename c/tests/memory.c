@@ -102,6 +102,31 @@ static void own(void)
     AGAIN(kt_clear(&hold));
 }
 
+/* A looker of a tree, and a hold that it makes. */
+static void look(void)
+{
+    struct kt_handle seen, sees, held;
+    AGAIN(kt_new(&seen.at));
+    AGAIN(kt_new(&sees.at));
+    AGAIN(kt_new(&held.at));
+    REFUSED(kt_create_root_with_looks(&seen, 8, 2, KT_SLOTS_MAX + 1));
+    AGAIN(kt_create_root_with_looks(&seen, 8, 2, 8));
+    AGAIN(kt_root(&seen, &root));
+    AGAIN(kt_create_dir(&seen, root, "d", 1, true, &dir));
+    REFUSED(kt_looker(&sees, &held));
+    AGAIN(kt_looker(&seen, &sees));
+    REFUSED(kt_looker(&seen, &sees));
+    REFUSED(kt_look(&sees, "/e", 2, &key));
+    REFUSED(kt_look(&sees, "/d", 2, &key));
+    AGAIN(kt_pin(&sees, key, &held));
+    REFUSED(kt_pin(&sees, key, &held));
+    REFUSED(kt_pin(&sees, root, &seen));
+    AGAIN(kt_clear(&held));
+    kt_delete(held);
+    kt_delete(sees);
+    kt_delete(seen);
+}
+
 int main(void)
 {
     memset(long_name, 'n', 200);
@@ -157,6 +182,7 @@ int main(void)
     AGAIN(kt_copy(&open, 0, text, sizeof text));
     kt_clear(&open);
     full();
+    look();
     kt_delete(all);
     kt_delete(small);
     kt_delete(other);

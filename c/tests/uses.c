@@ -195,7 +195,7 @@ static void holds(void)
     TRY(kt_restore(&hold), 0);
     TRY(kt_break(&hold), -EINVAL); /* a call breaks its protection once */
     TRY(kt_leave(&hold), 0);
-    TRY(kt_clear(&other), 0);
+    TRY(kt_clear(&other), 1);
     TRY(kt_clear(&other), 0);
 }
 
@@ -208,12 +208,12 @@ static void removal(void)
     TRY(kt_create_file(&tree, dir, "n", 1, 0444, 0, true, &key), -ENOENT);
     TRY(kt_hold(&tree, file, &other), 0);
     TRY(kt_enter(&other), -ENODEV);
-    TRY(kt_clear(&other), 0);
+    TRY(kt_clear(&other), 1);
     TRY(kt_remove(&tree, dir), -EAGAIN);
     TRY(kt_leave(&hold), 1);
     TRY(kt_hold(&tree, file, &other), 0);
     TRY(kt_remove(&tree, dir), -EAGAIN); /* it needs a hold for a moment */
-    TRY(kt_clear(&other), 0);
+    TRY(kt_clear(&other), 1);
     TRY(kt_remove(&tree, dir), 1);
     TRY(kt_enter(&hold), -ENODEV);
     TRY(kt_stat(&tree, file, &stat), -ENOENT);

@@ -1,7 +1,7 @@
 /* SPDX-License-Identifier: MIT OR Apache-2.0 */
 /* Wrong uses that the library cannot see, each in a new process:  wrong NAME  runs one, for tests/wrong.py, which knows
  * what a sanitizer must report. Uses whose name begins with `right` are right: nothing may be reported. */
-#include <kernfs_tree.h>
+#include <kt_live.h>
 #include <stdlib.h>
 #include <unistd.h>
 
@@ -306,6 +306,95 @@ static void right_handles(void) /* more than the table of kt_check.h can hold */
         kt_delete(many[i]);
 }
 
+/* ---- keys of another tree ---- */
+
+static struct kt_handle second;
+static struct kt_key second_dir;
+
+/* A second tree with a directory in it. */
+static void start_second(void)
+{
+    struct kt_key at;
+    must(kt_new(&second.at));
+    must(kt_create_root(&second, 16, 8));
+    must(kt_root(&second, &at));
+    must(kt_create_dir(&second, at, "d", 1, true, &second_dir));
+}
+static void other_key(void)
+{
+    struct kt_node_info info;
+    start_second();
+    must(kt_stat(&tree, second_dir, &info));
+}
+static void other_key_back(void)
+{
+    struct kt_handle made;
+    start_second();
+    must(kt_new(&made.at));
+    must(kt_hold(&second, dir_file, &made));
+}
+static void other_parent(void)
+{
+    start_second();
+    must(kt_create_dir(&second, dir, "e", 1, true, &other));
+}
+static void other_target(void)
+{
+    start_second();
+    must(kt_create_link(&second, second_dir, "l", 1, dir_file, true, &other));
+}
+static void other_place(void)
+{
+    start_second();
+    must(kt_rename(&tree, dir_file, second_dir, "f", 1));
+}
+static void freed_tree(void)
+{
+    struct kt_key before;
+    start_second();
+    before = second_dir;
+    must(kt_delete(second));
+    start_second();
+    must(kt_remove(&second, before));
+}
+static void other_live(void)
+{
+    struct kt_live *one, *two;
+    struct kt_key key, key_of_two;
+    must(kt_live_new(&one, 16));
+    must(kt_live_new(&two, 16));
+    must(kt_live_publish(one, "/a", NULL, 0, NULL, &key));
+    must(kt_live_publish(two, "/b", NULL, 0, NULL, &key_of_two));
+    must(kt_live_unpublish(one, key_of_two));
+}
+
+/* Each tree with its own keys, also old ones, and those of no tree; more trees than the table of kt_keys.h can hold. */
+static void right_trees(void)
+{
+    static struct kt_handle many[100];
+    struct kt_key keys[100], again, none = {0, 0};
+    struct kt_node_info info;
+    struct kt_command_counts counts;
+    for (int i = 0; i < 100; i++) {
+        must(kt_new(&many[i].at));
+        must(kt_create_root(&many[i], 1 + (uint32_t)i, 3));
+        must(kt_commands(&many[i], &counts));
+        if (counts.stored || kt_stat(&many[i], none, &info) != -ENOENT)
+            exit(1);
+        must(kt_root(&many[i], &keys[i]));
+        if (i)
+            must(kt_create_file(&many[i], keys[i], "A", 1, 0644, 0, true, &keys[i]));
+    }
+    for (int i = 1; i < 100; i++) {
+        must(kt_remove(&many[i], keys[i]));
+        must(kt_create_dir(&many[i], (struct kt_key){0, 1}, "d", 1, true, &again));
+        if (kt_stat(&many[i], keys[i], &info) != -ENOENT || kt_stat(&many[i], again, &info))
+            exit(1);
+    }
+    for (int i = 0; i < 100; i++)
+        must(kt_delete(many[i]));
+}
+
 static const struct use {
     const char *name;
     void (*run)(void);
@@ -315,6 +404,9 @@ static const struct use {
     {"long_path", long_path}, {"long_name", long_name}, {"long_new_name", long_new_name},
     {"long_shown", long_shown}, {"one_hold", one_hold}, {"one_file", one_file}, {"no_lock", no_lock},
     {"half_locked", half_locked}, {"right_lock", right_lock}, {"deleted_meanwhile", deleted_meanwhile},
+    {"other_key", other_key}, {"other_key_back", other_key_back}, {"other_parent", other_parent},
+    {"other_target", other_target}, {"other_place", other_place}, {"freed_tree", freed_tree},
+    {"other_live", other_live}, {"right_trees", right_trees},
     {"one_node", one_node}, {"two_nodes", two_nodes}, {"freed_early", freed_early},
     {"right_removal", right_removal}, {"right_removal_above", right_removal_above},
     {"right_removal_moved", right_removal_moved}, {"right_second_hold", right_second_hold},

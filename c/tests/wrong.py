@@ -29,6 +29,8 @@ RIGHT = (
 # What the sanitizers say, and of which uses.
 FREED, NO_HANDLE, RACE, USED_FREED = "heap-use-after-free", "SEGV", "data race", "heap-use-after-free"
 OF_A_CALL = "kt_delete() of a call: leave it first"
+OTHER = "a key of another tree"
+OTHERS = ("other_key", "other_key_back", "other_parent", "other_target", "other_place", "freed_tree", "other_live")
 REPORTED = {
     "address": {
         **dict.fromkeys(
@@ -37,13 +39,15 @@ REPORTED = {
         "deleted_inside": OF_A_CALL,
         **dict.fromkeys(("long_path", "long_name", "long_new_name", "long_shown"), "heap-buffer-overflow"),
         "zeroed": NO_HANDLE,
+        **dict.fromkeys(OTHERS, OTHER),
     },
     "thread": {
         **dict.fromkeys(("one_hold", "one_file", "no_lock", "half_locked", "one_node", "two_nodes", "freed_early"), RACE),
         **dict.fromkeys(("entered", "left", "cleared", "walked", "copied", "doubled"), USED_FREED),
+        **dict.fromkeys(OTHERS, OTHER),
     },
 }
-# (the last of these makes more handles than kt_check.h has room for)
+# (the last two of these make more trees, and more handles, than kt_check.h has room for)
 SILENT = [
     "right_lock",
     "right_removal",
@@ -52,6 +56,7 @@ SILENT = [
     "right_second_hold",
     "right_hiding",
     "right_activation",
+    "right_trees",
     "right_handles",
 ]
 

@@ -6,13 +6,13 @@ ghost use Rattle.kf_handles.specs.declared.object.Object.TheVariants as behind;
 ghost use Rattle.kf_handles.specs.Tasks.{HasHidingIn, HasNoHidingIn};
 ghost use Rattle.kf_handles.specs.declared.questions.Question.TheVariants as asks;
 ghost use Rattle.kf_handles.specs.Answers.{IsAsBefore, ToldWhy};
-ghost use Rattle.kf_handles.specs.Calls.{AreLimits, key_in, CreatedIn, IsNewTree, HoldsNode, ActivatedIn, MovedIn, CompactedIn, IsNothing, is_nothing};
+ghost use Rattle.kf_handles.specs.Calls.{AreLimits, key_in, CountedIn, CreatedIn, IsNewTree, HoldsNode, ActivatedIn, MovedIn, CompactedIn, IsNothing, is_nothing};
 ghost use Rattle.kf_handles.specs.LookUps.{find_behind, parent_behind, root_behind, stat_behind, walk_behind, IsRefusal, LinkTextIn, LinkTextRefused, NameIn, NameRefused, NextIn, NextRefusedIn, PathIn, PathRefused, TellsCommands, TellsKey, TellsStat, TellsText};
 ghost use Rattle.kf_handles.specs.Numbers.{HasPostOf, IsSameTree, PostRefused, WasNotified, WasFull, TookNumber, IsNoPost, notify_error};
 ghost use Rattle.kf_handles.specs.Steps.{WakeOwed};
 
 use kf_core::{Key, Node};
-use kf_handles::{KtCommands, KtGiven, KtHandle, KtKey, KtStat, Question, key_of};
+use kf_handles::{KtCommands, KtCounts, KtGiven, KtHandle, KtKey, KtStat, Question, key_of};
 use std::alloc::Global;
 
 /// The version of the library: its major number times 1,000, and its minor number.
@@ -43,8 +43,8 @@ pub extern "C" fn kt_delete(handle: KtHandle) -> i32
     kf_handles::delete(handle)
 }
 
-/// Frees what lies behind a handle: a hold is released, and a call ended first. A tree with a hidden
-/// file in which somebody may be stays.
+/// Frees what lies behind a handle: a hold is released, and a call ended first. 1 if a removal or a hiding
+/// may wait for that. A tree with a hidden file in which somebody may be stays.
 #[unsafe(no_mangle)]
 pub extern "C" fn kt_clear(handle: &mut KtHandle) -> i32
     ensures empty { (result ≡ pos 0) ⊎ (result ≡ pos 1) →
@@ -72,7 +72,7 @@ pub extern "C" fn kt_create_root(
     ensures why { is_nothing handle.old.place ≡ true → AreLimits slots holds → result ≢ pos 0 →
         result ≡ negsuc 11 }
 {
-    kf_handles::make_tree(alloc, handle, slots, holds)
+    kf_handles::make_tree(alloc, handle, slots, holds, 0)
 }
 
 /// The key of the root.
@@ -302,6 +302,20 @@ pub extern "C" fn kt_hold(tree: &mut KtHandle, key: KtKey, out: &mut KtHandle) -
         ToldWhy (asks.Hold (key_in key)) tree.old.place.object tree.new.place.object result }
 {
     kf_handles::hold(tree, key, out)
+}
+
+/// How many hold and use a node, as one load of each of its two words found it.
+#[unsafe(no_mangle)]
+pub extern "C" fn kt_counts(tree: &mut KtHandle, key: KtKey, out: &mut KtCounts) -> i32
+    ensures counted { result ≡ pos 0 →
+        CountedIn tree.old.place.object tree.new.place.object (key_in key) out.new }
+    ensures kept { IsAsBefore tree.old.place.object tree.new.place.object }
+    ensures same { result ≢ pos 0 → out.new ≡ out.old }
+    ensures beside { tree.new.place.seat ≡ tree.old.place.seat }
+    ensures why { result ≢ pos 0 → ToldWhy
+        (asks.Counts (key_in key)) tree.old.place.object tree.new.place.object result }
+{
+    kf_handles::counts(tree, key, out)
 }
 
 /// A post of the slot of a node, behind a handle with nothing behind it.

@@ -6,8 +6,8 @@ ghost use Rattle.kf_handles.specs.Files.{OpenedIn, OpenRefused, Serves, BeganRea
 ghost use Rattle.kf_handles.specs.LookUps.{IsRefusal, TellsText};
 ghost use Rattle.kf_handles.specs.Steps.{WasEntered};
 
-use kf_files::Want;
 use kf_handles::{KtHandle, KtKey};
+use kf_pages::Want;
 use std::alloc::Global;
 
 /// Opens a file of the tree (`kernfs_fop_open`), behind a handle with nothing behind it.

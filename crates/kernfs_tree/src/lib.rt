@@ -5,6 +5,7 @@
 mod calls;
 mod file_calls;
 mod hold_calls;
+mod look_calls;
 mod task_calls;
 
 pub use calls::{
@@ -14,4 +15,5 @@ pub use calls::{
 };
 pub use file_calls::{kt_begin_read, kt_begin_write, kt_changed, kt_copy, kt_open, kt_shown};
 pub use hold_calls::{kt_break, kt_dup, kt_enter, kt_leave, kt_restore};
+pub use look_calls::{kt_create_root_with_looks, kt_look, kt_looker, kt_pin};
 pub use task_calls::{kt_claim, kt_hide, kt_remove, kt_unhide};

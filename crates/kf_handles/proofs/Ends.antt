@@ -149,6 +149,7 @@ shown_or_not old new tokens tokens' key told.Not still = no_end_same (key ∷ []
 shown_or_not old new tokens tokens' key (told.Refused why) same = no_end_same (key ∷ []) old new same.1
 shown_or_not old new tokens tokens' key (told.Named k) never = absurd never
 shown_or_not old new tokens tokens' key (told.Held h) never = absurd never
+shown_or_not old new tokens tokens' key (told.Counted n) never = absurd never
 shown_or_not old new tokens tokens' key told.Gone never = absurd never
 shown_or_not old new tokens tokens' key told.Wrong never = absurd never
 

@@ -15,6 +15,9 @@ use Rattle.kf_words.specs.Nodes.{FoundFull, PinRefused, WasFull}
 use Rattle.kf_shared.specs.Locked.{Locked, HoldRefused}
 use Rattle.kf_shared.specs.Removal.{FoundFullIn}
 use Rattle.kf_shared.proofs.Pins.{if_false, not_the_root, why_refused}
+use Rattle.kf_shared.specs.Finding.{PathHolderState}
+use Rattle.kf_handles.specs.Answers.{IsAsBefore}
+use Rattle.kf_handles.specs.Lookers.{IsLookerIn, LookerRefused}
 use Rattle.kf_handles.specs.Removing.{MarkRefused}
 use Rattle.kf_handles.specs.Tasks.{SteppedBehind, StepToldWhy}
 use Rattle.kf_handles.specs.declared.object.Object.{Object}
@@ -85,6 +88,21 @@ step_told what (behind.Tree old) (behind.Tree new) why number h e = (why, e, h.0
 step_told what (behind.Tree old) behind.Empty why number (same, never) e = cc
 step_told what (behind.Tree old) (behind.Post new) why number (same, never) e = cc
 step_told what (behind.Tree old) (behind.File new) why number (same, never) e = cc
+step_told what (behind.Tree old) (behind.Looker new) why number (same, never) e = cc
 step_told what behind.Empty new why number (same, never) e = cc
 step_told what (behind.Post old) new why number (same, never) e = cc
 step_told what (behind.File old) new why number (same, never) e = cc
+step_told what (behind.Looker old) new why number (same, never) e = cc
+
+-- a looker was made of a tree, and then there was no memory
+pub looker_wants_memory : (old new : Object) (looker : PathHolderState) → IsLookerIn old looker → IsAsBefore old new
+    → LookerRefused old new NoMemory
+looker_wants_memory (behind.Tree old) (behind.Tree new) looker made same = inr refl
+looker_wants_memory (behind.Tree old) behind.Empty looker made same = cc
+looker_wants_memory (behind.Tree old) (behind.Post new) looker made same = cc
+looker_wants_memory (behind.Tree old) (behind.File new) looker made same = cc
+looker_wants_memory (behind.Tree old) (behind.Looker new) looker made same = cc
+looker_wants_memory behind.Empty new looker never same = absurd never
+looker_wants_memory (behind.Post old) new looker never same = absurd never
+looker_wants_memory (behind.File old) new looker never same = absurd never
+looker_wants_memory (behind.Looker old) new looker never same = absurd never

@@ -3,12 +3,16 @@ use Rattle.std.specs.Prelude.{◌≡◌, ℕ, ℤ, pos, negsuc, neg_ℤ, List, B
 use Rattle.kf_core.specs.declared.key.Key.{Key}
 use Rattle.kf_core.specs.declared.command.Command.TheVariants.{Activate, Rename}
 use Rattle.kf_core.specs.declared.refusal.Refusal.{Refusal}
-use Rattle.kf_core.specs.declared.refusal.Refusal.TheVariants.{NoMemory}
+use Rattle.kf_core.specs.declared.refusal.Refusal.TheVariants.{NoEntry, NoMemory}
 use Rattle.kf_core.specs.Refusals.{number_of}
 use Rattle.kf_table.specs.Children.{is_there_already}
 use Rattle.kf_tree.specs.Causes.{Refuses, linked_cause}
 use Rattle.kf_tree.specs.TreeLogs.{IsAccepted, IsCompacted}
+use Rattle.kf_core.specs.Tree.{is_linked}
+use Rattle.kf_words.specs.declared.counts.Counts.{Counts}
 use Rattle.kf_words.specs.Callers.{TableId, Handle}
+use Rattle.kf_words.specs.Nodes.{sight_in}
+use Rattle.kf_words.specs.Made.{WereLoaded}
 use Rattle.kf_shared.specs.Locked.{Locked, Created, CreateRefused, IsHoldOfNode, HoldRefused, Unchanged, move_cause, is_claimed}
 use Rattle.kf_handles.specs.Removing.{ClaimRefused, IsMarked}
 use Rattle.kf_handles.specs.declared.object.Object.{Object}
@@ -31,6 +35,12 @@ abbrev pub HeldOr : (Handle → Type 0) → (Refusal → Type 0) → TreeReply �
 HeldOr Such Why (told.Held held) = Such held.hold
 HeldOr Such Why (told.Refused refusal) = Why refusal
 HeldOr Such Why other = ⊥
+
+-- it has the counts of a node, of which this holds
+abbrev pub CountedOr : (Counts → Type 0) → (Refusal → Type 0) → TreeReply → Type 0
+CountedOr Such Why (told.Counted counts) = Such counts
+CountedOr Such Why (told.Refused refusal) = Why refusal
+CountedOr Such Why other = ⊥
 
 -- it says that something is done, or not
 abbrev pub DoneOr : Type 0 → Type 0 → (Refusal → Type 0) → TreeReply → Type 0
@@ -59,6 +69,11 @@ Moved old new key dir name = (move_cause old key dir name ≡ None)
 abbrev pub ClaimedTo : Locked → Locked → Key → Type 0
 ClaimedTo old new key = new.claims ≡ slice_set old.claims key.slot key.generation
 
+-- the node is linked, and one load of each of its two words found these counts
+abbrev pub Counted : Locked → Locked → Key → Counts → Type 0
+Counted old new key counts = (is_linked old.state.tree key ≡ true)
+    × WereLoaded key.slot counts (sight_in old.master) (sight_in new.master)
+
 -- what becomes of a tree, of this table, that returns this
 abbrev pub TreeAnswered : TableId → Question → Locked → Locked → TreeReply → Type 0
 TreeAnswered table (asks.Create parent name node live) old new reply =
@@ -78,6 +93,9 @@ TreeAnswered table (asks.Claim key) old new reply =
     DoneOr ((is_claimed old.claims key ≡ false) × ClaimedTo old new key × IsMarked old new key)
     ((is_claimed old.claims key ≡ true) × ClaimedTo old new key × IsMarked old new key)
     (λ why. ClaimRefused old new key why × Unchanged old new) reply
+TreeAnswered table (asks.Counts key) old new reply =
+    CountedOr (λ counts. Counted old new key counts × Unchanged old new)
+    (λ why. (why ≡ NoEntry) × (is_linked old.state.tree key ≡ false) × Unchanged old new) reply
 
 -- the questions that ask for a key
 abbrev pub is_naming : Question → Bool

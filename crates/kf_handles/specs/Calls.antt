@@ -19,7 +19,8 @@ use Rattle.kf_handles.specs.declared.replies.KtKey.{KtKey}
 use Rattle.kf_handles.specs.declared.replies.KtStat.{KtStat}
 use Rattle.kf_handles.specs.declared.object.Object.TheVariants as behind
 use Rattle.kf_handles.specs.Removing.{IsMarked}
-use Rattle.kf_handles.specs.Answers.{ClaimedTo, Moved, OfTrees}
+use Rattle.kf_handles.specs.declared.counting.KtCounts.{KtCounts}
+use Rattle.kf_handles.specs.Answers.{ClaimedTo, Counted, Moved, OfTrees}
 
 -- the key that a program has of a node
 abbrev pub key_in : KtKey → Key
@@ -99,6 +100,11 @@ abbrev pub ClaimedIn : Object → Object → KtKey → Bool → Type 0
 ClaimedIn old new key before_this = OfTrees (λ before after.
     (is_claimed before.claims (key_in key) ≡ before_this) × ClaimedTo before after (key_in key)
     × IsMarked before after (key_in key)) old new
+
+-- the node is in the tree, and one load of each of its two words found as many
+abbrev pub CountedIn : Object → Object → Key → KtCounts → Type 0
+CountedIn old new key told = OfTrees (λ before after.
+    Counted before after key (record { holds = told.holds; users = told.users })) old new
 
 -- whether this is nothing
 abbrev pub are_nothing : Seat → Object → Bool

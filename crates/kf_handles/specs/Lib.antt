@@ -13,3 +13,4 @@ pub mod Numbers
 pub mod Taken
 pub mod Files
 pub mod Another
+pub mod Lookers

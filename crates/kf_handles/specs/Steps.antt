@@ -1,10 +1,10 @@
 -- What the steps of a hold and a call make of what lies behind a handle.
-use Rattle.std.specs.Prelude.{◌≡◌, ◌≢◌, ◌⊎◌, ◌-◌, ℕ, ℤ, pos, negsuc, Bool, false, if◌then◌else◌}
+use Rattle.std.specs.Prelude.{◌≡◌, ◌≢◌, ◌⊎◌, ◌-◌, ◌||◌, ℕ, ℤ, pos, negsuc, Bool, false, if◌then◌else◌}
 use Rattle.kf_core.specs.declared.caller.Phase.TheVariants.{Running, Broken}
 use Rattle.kf_words.specs.Layout.{wants_wake}
 use Rattle.kf_words.specs.Callers.{Handle, IsSameSeat, Entered, WasTurned, seat_view}
 use Rattle.kf_words.specs.Callers.{WasLeft as LeftHandle, WasBroken as BrokenHandle, WasRestored as RestoredHandle}
-use Rattle.kf_words.specs.Made.{WasALeave, WasABreak, WasARestore, WasLetInLive}
+use Rattle.kf_words.specs.Made.{WasALeave, WasABreak, WasARestore, WasLetInLive, GavePlaceBack}
 use Rattle.kf_handles.specs.declared.object.Seat.{Seat}
 use Rattle.kf_handles.specs.declared.object.Seat.TheVariants as seat
 
@@ -99,17 +99,23 @@ found_by seat.None = 0
 abbrev pub wake_of : Seat → ℤ
 wake_of at = wake_after (found_by at)
 
--- one step ended a call, which first took its reference again if it had given that up; and a sleeper
--- may wait for that step, or not
+-- one step gave a hold back, and a sleeper may wait for its place if the slot had no other until then
+abbrev pub HasReleased : Handle → Bool → Type 0
+HasReleased hold wanted = GavePlaceBack (seat_view hold) wanted
+
+-- one step ended a call, which first took its reference again if it had given that up, and a later one gave
+-- its hold back; a sleeper may wait for one of these two, or not
 abbrev pub HasEnded : Handle → Bool → Type 0
 HasEnded call wanted = (running : Handle) × ((running ≡ call) ⊎ HasRestored call running)
-    × (hold : Handle) × HasLeft running hold × (wanted ≡ wants_wake (hold.found - 1))
+    × (hold : Handle) × HasLeft running hold × (was_full : Bool) × HasReleased hold was_full
+    × (wanted ≡ (wants_wake (hold.found - 1) || was_full))
 
--- so it is for a call that was dropped; nobody waits for anything else
+-- so it is for a hold or a call that was dropped; nobody waits for anything else
 abbrev pub EndOwed : Seat → Bool → Type 0
+EndOwed (seat.Hold held) wanted = HasReleased held.hold wanted
 EndOwed (seat.Call inside) wanted = HasEnded inside.call wanted
 EndOwed (seat.Show inside) wanted = HasEnded inside.call wanted
-EndOwed other wanted = wanted ≡ false
+EndOwed seat.None wanted = wanted ≡ false
 
 -- 1 if a wake is owed to sleepers, and else 0
 abbrev pub WakeOwed : Seat → ℤ → Type 0

@@ -9,7 +9,7 @@ ghost use Rattle.kf_handles.specs.declared.object.Seat.TheVariants as seat_of;
 use crate::errors::{INVALID, error_of};
 use crate::handle::KtHandle;
 use crate::holds::Held;
-use crate::object::{Object, Place, Seat};
+use crate::object::{Object, Seat};
 use crate::replies::put;
 use crate::telling::is_nothing;
 use kf_core::Refusal;
@@ -47,10 +47,7 @@ pub fn dup(hold: &mut KtHandle, out: &mut KtHandle) -> i32
         return INVALID;
     }
     match another_of(&mut hold.place_mut().seat) {
-        Ok(held) => {
-            let place = Place::of(Seat::Hold(held), Object::Empty);
-            put(out.place_mut(), place)
-        }
+        Ok(held) => { put(out.place_mut(), Seat::Hold(held), Object::Empty) }
         Err(refusal) => error_of(refusal),
     }
 }

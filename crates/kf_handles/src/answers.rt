@@ -5,8 +5,7 @@ use crate::holds::Held;
 use crate::object::Object;
 use crate::questions::{Question, TreeReply};
 use crate::removal::claim;
-use crate::tree::ask;
-use core::mem::replace_with;
+use kf_core::Refusal;
 use kf_shared::{Locked, Naming};
 
 /// What the tree returns.
@@ -40,6 +39,10 @@ pub fn answer<N: Naming>(locked: &mut Locked<N>, question: Question<'_>) -> Tree
             Err(refusal) => TreeReply::Refused(refusal),
         },
         Question::Claim(key) => claim(locked, key),
+        Question::Counts(key) => match locked.counts(key) {
+            Some(counts) => TreeReply::Counted(counts),
+            None => TreeReply::Refused(Refusal::NoEntry),
+        },
     }
 }
 
@@ -48,7 +51,7 @@ pub fn ask_object(object: &mut Object, question: Question<'_>) -> TreeReply
     ensures { AnsweredBehind question.entry object.old object.new result }
 {
     match object {
-        Object::Tree(tree) => replace_with(tree.as_mut(), question, ask),
+        Object::Tree(tree) => tree.as_mut().ask(question),
         _ => TreeReply::Wrong,
     }
 }

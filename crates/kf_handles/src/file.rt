@@ -3,8 +3,8 @@ ghost use Rattle.std.specs.Prelude.{◌≡◌, None, Some};
 ghost use Rattle.kf_pages.specs.Files.{new_file, is_changed};
 ghost use Rattle.kf_handles.specs.Taken.{NumberTaken};
 
-use kf_files::{Contents, Page, Want};
 use kf_notify::Post;
+use kf_pages::{Contents, Page, Want};
 use std::marker::Model;
 
 /// What an open file keeps between the halves of a read, and the post that says whether it has changed.

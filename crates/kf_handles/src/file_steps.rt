@@ -19,7 +19,7 @@ use crate::telling::{is_nothing, stat_in};
 use crate::texts::copied;
 use core::mem::replace_with;
 use kf_core::{Node, Refusal};
-use kf_files::Want;
+use kf_pages::Want;
 use kf_tree::Stat;
 use std::alloc::Global;
 
@@ -81,10 +81,7 @@ pub fn open(alloc: Global, handle: &mut KtHandle, key: KtKey, want: Want, out: &
         Err(refusal) => return error_of(refusal),
     };
     match Box::new(alloc, File::new(want, post)) {
-        Ok(file) => {
-            let place = Place::of(Seat::Hold(held), Object::File(file));
-            put(out.place_mut(), place)
-        }
+        Ok(file) => { put(out.place_mut(), Seat::Hold(held), Object::File(file)) }
         Err(_) => NO_MEMORY,
     }
 }

@@ -1,7 +1,7 @@
 //! Holds and calls that are given back if they are dropped.
 ghost use Rattle.std.specs.Prelude.{◌≡◌, ◌≢◌, false, IsTrue};
 ghost use Rattle.kf_core.specs.declared.caller.Phase.TheVariants.{Running};
-ghost use Rattle.kf_handles.specs.Steps.{HasEnded};
+ghost use Rattle.kf_handles.specs.Steps.{HasEnded, HasReleased};
 
 use kf_core::Phase;
 use kf_words::{Call, Hold, Wake};
@@ -26,11 +26,18 @@ impl Held {
         let Held { hold } = self;
         hold
     }
+
+    /// Releases the hold. True if its node had no other place for a hold until then.
+    pub fn end(self) -> bool
+        ensures { HasReleased self.hold result }
+    {
+        self.into_hold().release_place()
+    }
 }
 
 impl Drop for Held {
     fn drop(self) {
-        self.into_hold().release();
+        self.end();
     }
 }
 
@@ -64,7 +71,7 @@ impl Inside {
     }
 
     /// Ends the call, whatever its phase is, and gives its hold of the slot back. True if a sleeper
-    /// at the node may wait for that.
+    /// at the node may wait for one of the two.
     pub fn end(self) -> bool
         ensures { HasEnded self.call result }
     {
@@ -73,10 +80,10 @@ impl Inside {
             call.restore();
         }
         let (hold, due) = call.leave_quiet();
-        hold.release();
+        let was_full = hold.release_place();
         match due.must_wake() {
             Wake::Wanted => true,
-            Wake::Unwanted => false,
+            Wake::Unwanted => was_full,
         }
     }
 }

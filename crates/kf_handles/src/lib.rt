@@ -1,15 +1,18 @@
 //! The attribute tree behind handles, for programs in C: what the calls of the static library `kernfs_tree`
-//! do. Behind each handle lies nothing, a tree, a hold of a node or a call of one, a post, or an open file.
+//! do. Behind each handle lies nothing, a tree, a hold of a node or a call of one, a post, an open file, or a
+//! looker.
 #![tactic(auto)]
 
 mod another;
 mod answers;
+mod counting;
 mod errors;
 mod file;
 mod file_steps;
 mod handle;
 mod hiding;
 mod holds;
+mod looking;
 mod marking;
 mod numbers;
 mod object;
@@ -24,10 +27,13 @@ mod texts;
 mod token;
 mod tokens;
 mod tree;
+mod tree_looker;
 
 pub use another::dup;
+pub use counting::{KtCounts, counts};
 pub use file_steps::{begin_read, begin_write, changed, copy, open, shown};
 pub use handle::{KtGiven, KtHandle};
+pub use looking::{look, looker, pin};
 pub use numbers::{notify, number, post};
 pub use questions::Question;
 pub use replies::{

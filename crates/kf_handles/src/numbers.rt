@@ -6,7 +6,7 @@ ghost use Rattle.kf_handles.specs.Numbers.{IsPostOf, IsSameTree, HasPostOf, Post
 
 use crate::errors::{INVALID, OVERFLOW, error_of};
 use crate::handle::KtHandle;
-use crate::object::{Object, Place, Seat};
+use crate::object::{Object, Seat};
 use crate::replies::{KtKey, key_of, put};
 use crate::telling::is_nothing;
 use kf_core::{Key, Refusal};
@@ -47,10 +47,7 @@ pub fn post(handle: &mut KtHandle, key: KtKey, out: &mut KtHandle) -> i32
         return INVALID;
     }
     match post_of(&mut handle.place_mut().object, key_of(key)) {
-        Ok(post) => {
-            let place = Place::of(Seat::None, Object::Post(post));
-            put(out.place_mut(), place)
-        }
+        Ok(post) => { put(out.place_mut(), Seat::None, Object::Post(post)) }
         Err(refusal) => error_of(refusal),
     }
 }

@@ -8,6 +8,7 @@ ghost use Rattle.kf_handles.specs.Tasks.{HasHidingIn, HasNoHidingIn};
 use crate::file::File;
 use crate::holds::{Held, Inside};
 use crate::tree::Tree;
+use crate::tree_looker::TreeLooker;
 use kf_notify::Post;
 
 /// A hold of a node, or a call of one. A call that a read began, for a show, is a separate variant: a field
@@ -32,6 +33,19 @@ impl Seat {
             _ => false,
         }
     }
+
+    /// Drops what it is: a hold is released, and a call ended first. True if a sleeper at its node may wait for
+    /// that.
+    pub fn end(self) -> bool
+        ensures { EndOwed self result }
+    {
+        match self {
+            Seat::None => false,
+            Seat::Hold(held) => held.end(),
+            Seat::Call(inside) => inside.end(),
+            Seat::Show(inside) => inside.end(),
+        }
+    }
 }
 
 /// What is beside a seat.
@@ -41,6 +55,7 @@ pub enum Object {
     Tree(Box<Tree>),
     Post(Post),
     File(Box<File>),
+    Looker(Box<TreeLooker>),
 }
 
 /// A seat and an object in their own memory. The words after them keep them off the cache lines of the
@@ -84,27 +99,6 @@ impl Place {
         match &self.object {
             Object::Tree(tree) => tree.is_hiding(),
             _ => false,
-        }
-    }
-
-    /// Drops what lies there: a hold is released, and a call ended first. True if a sleeper at
-    /// the node of a call may wait for that.
-    pub fn end(self) -> bool
-        ensures { EndOwed self.seat result }
-    {
-        let Place {
-            seat,
-            object,
-            apart: _,
-        } = self;
-        drop(object);
-        match seat {
-            Seat::Call(inside) => inside.end(),
-            Seat::Show(inside) => inside.end(),
-            other => {
-                drop(other);
-                false
-            }
         }
     }
 }

@@ -1,6 +1,7 @@
 //! What the owner of a tree may ask it to do, and what the tree returns.
 use crate::holds::Held;
 use kf_core::{Key, Node, Refusal};
+use kf_words::Counts;
 
 /// What is asked of a tree.
 #[derive(Clone, Copy)]
@@ -26,6 +27,8 @@ pub enum Question<'a> {
     Compact,
     /// The removal of a node by itself claimed.
     Claim(Key),
+    /// How many hold and use a node.
+    Counts(Key),
 }
 
 /// What may have to be asked of a tree again, since somebody is inside.
@@ -45,6 +48,7 @@ pub enum TreeReply {
     /// This key.
     Named(Key),
     Held(Held),
+    Counted(Counts),
     /// It is done.
     Done,
     /// The node was out of the tree before.

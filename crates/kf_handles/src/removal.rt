@@ -77,14 +77,18 @@ fn take_each<N: Naming>(locked: &mut Locked<N>, tokens: &mut Vec<Option<Token>>,
     rest.destroy_empty();
 }
 
-/// Takes a marked node out of the tree, if nobody uses it and it has room for a hold more.
+/// Takes a marked node out of the tree, if nobody uses it and it has room for a hold more. It is shown first,
+/// if it is hidden: what hides it has one of its holds.
 fn take_marked<N: Naming>(locked: &mut Locked<N>, tokens: &mut Vec<Option<Token>>, key: Key)
     requires { AreTokensOf N.table tokens.old.items }
     ensures ends { Ends (key ∷ []) locked.old locked.new }
     ensures tokens { AreTokensOf N.table tokens.new.items }
 {
+    if !unhide_first(locked, tokens, key) {
+        return;
+    }
     if let Ok(hold) = locked.hold(key) {
-        take_out(locked, tokens, hold);
+        unlink(locked, hold);
     }
 }
 

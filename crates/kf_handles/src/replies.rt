@@ -5,6 +5,7 @@ ghost use Rattle.kf_handles.specs.Answers.{TreeAnswered, AnsweredBehind, OfTrees
 ghost use Rattle.kf_handles.specs.Calls.{AreLimits, IsNewTree, CreatedIn, HoldsNode, ClaimedIn, IsNothing, is_nothing, key_in, stat_in_c};
 ghost use Rattle.kf_handles.specs.Steps.{WakeOwed};
 ghost use Rattle.kf_handles.specs.declared.questions.Question.TheVariants as asks;
+ghost use Rattle.kf_core.specs.Limits.{most_slots};
 ghost use Rattle.kf_core.specs.declared.key.Node.TheVariants as kind;
 ghost use Rattle.kf_handles.specs.declared.object.Object.TheVariants as behind;
 ghost use Rattle.kf_handles.specs.declared.questions.TreeReply.TheVariants as told;
@@ -17,7 +18,7 @@ use crate::questions::{Question, TreeReply};
 use crate::telling::is_nothing;
 use crate::tree::Tree;
 use core::mem::replace;
-use kf_core::{Key, Limits, Node};
+use kf_core::{Key, Limits, MOST_SLOTS, Node};
 use kf_tree::Stat;
 use std::alloc::Global;
 use std::mem::ManuallyDrop;
@@ -228,19 +229,21 @@ pub fn claim(handle: &mut KtHandle, key: KtKey) -> i32
     }
 }
 
-/// Puts this if there is nothing.
-pub fn put(place: &mut Place, new: Place) -> i32
-    ensures put { result ≡ pos 0 → IsNothing place.old × (place.new ≡ new) }
+/// Puts these if there is nothing.
+pub fn put(place: &mut Place, seat: Seat, object: Object) -> i32
+    ensures put { result ≡ pos 0 →
+        IsNothing place.old × (place.new.seat ≡ seat) × (place.new.object ≡ object) }
     ensures same { result ≢ pos 0 → place.new ≡ place.old }
     ensures room { is_nothing place.old ≡ true → result ≡ pos 0 }
 {
-    if place.is_empty() {
-        replace(place, new).end();
-        0
-    } else {
-        new.end();
-        INVALID
+    if !place.is_empty() {
+        drop(object);
+        seat.end();
+        return INVALID;
     }
+    place.seat = seat;
+    place.object = object;
+    0
 }
 
 /// Takes a hold of a node, and puts it behind a handle with nothing behind it.
@@ -260,10 +263,7 @@ pub fn hold(handle: &mut KtHandle, key: KtKey, out: &mut KtHandle) -> i32
     }
     let key = key_of(key);
     match ask_handle(handle, Question::Hold(key)) {
-        TreeReply::Held(held) => {
-            let place = Place::of(Seat::Hold(held), Object::Empty);
-            put(out.place_mut(), place)
-        }
+        TreeReply::Held(held) => { put(out.place_mut(), Seat::Hold(held), Object::Empty) }
         TreeReply::Refused(refusal) => error_of(refusal),
         _ => INVALID,
     }
@@ -284,15 +284,17 @@ pub fn make(alloc: Global, out: &mut KtGiven) -> i32
     }
 }
 
-/// A new tree of only the root, behind a handle with nothing behind it.
-pub fn make_tree(alloc: Global, handle: &mut KtHandle, slots: u32, holds: u32) -> i32
+/// A new tree of only the root, with words for the look-ups of this many slots, behind a handle with nothing
+/// behind it.
+pub fn make_tree(alloc: Global, handle: &mut KtHandle, slots: u32, holds: u32, looks: u32) -> i32
     ensures made { result ≡ pos 0 → IsNewTree slots holds handle.new.place.object }
     ensures taken { is_nothing handle.old.place ≡ false → result ≡ negsuc 21 }
     ensures was { result ≡ pos 0 → IsNothing handle.old.place }
     ensures same { result ≢ pos 0 → handle.new.place ≡ handle.old.place }
     ensures unlawful { (¬ AreLimits slots holds) → result ≡ negsuc 21 }
-    ensures why { is_nothing handle.old.place ≡ true → AreLimits slots holds → result ≢ pos 0 →
-        result ≡ negsuc 11 }
+    ensures many { most_slots < looks → result ≡ negsuc 21 }
+    ensures why { is_nothing handle.old.place ≡ true → AreLimits slots holds → looks ≤ most_slots →
+        result ≢ pos 0 → result ≡ negsuc 11 }
 {
     if !is_nothing(handle) {
         return INVALID;
@@ -300,15 +302,15 @@ pub fn make_tree(alloc: Global, handle: &mut KtHandle, slots: u32, holds: u32) -
     let Some(limits) = Limits::new(slots, holds) else {
         return INVALID;
     };
-    let tree = match Tree::new(alloc, limits) {
+    if looks > MOST_SLOTS {
+        return INVALID;
+    }
+    let tree = match Tree::new(alloc, limits, looks) {
         Ok(tree) => tree,
         Err(refusal) => return error_of(refusal),
     };
     match Box::new(alloc, tree) {
-        Ok(tree) => {
-            let place = Place::of(Seat::None, Object::Tree(tree));
-            put(handle.place_mut(), place)
-        }
+        Ok(tree) => { put(handle.place_mut(), Seat::None, Object::Tree(tree)) }
         Err(_) => NO_MEMORY,
     }
 }
@@ -323,7 +325,8 @@ fn end(place: &mut Place) -> i32
     if place.is_hiding() {
         return BUSY;
     }
-    if replace(place, Place::of(Seat::None, Object::Empty)).end() {
+    place.object = Object::Empty;
+    if replace(&mut place.seat, Seat::None).end() {
         1
     } else {
         0

@@ -12,15 +12,13 @@ use crate::handle::KtHandle;
 use crate::object::Object;
 use crate::questions::{Task, TreeReply};
 use crate::replies::{KtKey, key_of};
-use crate::tree::step;
-use core::mem::replace_with;
 
 /// Makes a step of what lies there.
 fn step_object(object: &mut Object, task: Task) -> TreeReply
     ensures { SteppedBehind task object.old object.new result }
 {
     match object {
-        Object::Tree(tree) => replace_with(tree.as_mut(), task, step),
+        Object::Tree(tree) => tree.as_mut().step(task),
         _ => TreeReply::Wrong,
     }
 }

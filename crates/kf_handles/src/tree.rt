@@ -1,5 +1,6 @@
 //! A tree with the event numbers of its slots and the tokens of its hidden files.
 ghost use Rattle.std.specs.Prelude.{◌≡◌, ◌≤◌, ◌⊎◌, None, true, false, IfErr, IfOk, replicate};
+ghost use Rattle.kf_core.specs.Limits.{most_slots};
 ghost use Rattle.kf_core.specs.declared.refusal.Refusal.TheVariants as refusal_of;
 ghost use Rattle.kf_notify.specs.PostStates.{IsNewPost};
 ghost use Rattle.kf_tree.specs.TreeLogs.{IsNew};
@@ -8,6 +9,8 @@ ghost use Rattle.kf_handles.specs.Tasks.{Stepped};
 ghost use Rattle.kf_handles.specs.Answers.{TreeAnswered};
 ghost use Rattle.kf_handles.specs.Hiding.{HasHiding, HasNoHiding};
 ghost use Rattle.kf_handles.specs.Kept.{AreTokensOf};
+ghost use Rattle.kf_handles.specs.Lookers.{IsLookerOf, NoLooker};
+ghost use Rattle.kf_shared.specs.Locked.{Unchanged};
 
 use crate::answers::answer;
 use crate::hiding::{hide, unhide};
@@ -15,6 +18,7 @@ use crate::questions::{Question, Task, TreeReply};
 use crate::removal::remove;
 use crate::token::Token;
 use crate::tokens::{has_hiding, no_tokens};
+use crate::tree_looker::TreeLooker;
 use kf_core::{Limits, Refusal};
 use kf_notify::{Post, Posts};
 use kf_shared::{Locked, Naming, NewTree, SharedTree};
@@ -41,8 +45,9 @@ impl Model for Tree {
 }
 
 impl Tree {
-    /// A new tree of only the root.
-    pub fn new(alloc: Global, limits: Limits) -> Result<Tree, Refusal>
+    /// A new tree of only the root, with words for the look-ups of this many slots.
+    pub fn new(alloc: Global, limits: Limits, looks: u32) -> Result<Tree, Refusal>
+        requires { looks ≤ most_slots }
         ensures tree { IfOk result
             (λ tree. IsNew limits.slots (record { slot = 0; generation = 1 }) tree.nodes.state) }
         ensures words { IfOk result (λ tree. tree.nodes.master.view ≡ opened limits.holds limits.slots 0) }
@@ -50,7 +55,7 @@ impl Tree {
         ensures hidden { IfOk result (λ tree. tree.hidden ≡ replicate limits.slots None) }
         ensures refused { IfErr result (λ why. why ≡ refusal_of.NoMemory) }
     {
-        let nodes = SharedTree::<Brand>::new(alloc, limits)?;
+        let nodes = SharedTree::<Brand>::with_looks(alloc, limits, 0, looks)?;
         let posts = Posts::new(alloc, limits.slots())?;
         let hidden = no_tokens(alloc, limits.slots())?;
         Ok(Tree {
@@ -87,39 +92,58 @@ impl Tree {
     {
         has_hiding(self.hidden.as_slice())
     }
+
+    /// A looker of the tree.
+    pub fn looker(&mut self, alloc: Global) -> Result<TreeLooker, Refusal>
+        ensures made { IfOk result (λ looker. IsLookerOf self.old.nodes.master.table self.old.nodes looker) }
+        ensures refused { IfErr result (λ why. NoLooker self.old.nodes self.new.nodes why) }
+        ensures nodes { Unchanged self.old.nodes self.new.nodes }
+        ensures posts { self.new.posts ≡ self.old.posts }
+        ensures hidden { self.new.hidden ≡ self.old.hidden }
+    {
+        looker_named::<Brand>(&mut self.nodes, alloc)
+    }
+
+    /// Asks the tree, which stays in its place.
+    pub fn ask(&mut self, question: Question<'_>) -> TreeReply
+        ensures told { TreeAnswered self.old.nodes.master.table question.entry self.old.nodes self.new.nodes
+            result }
+        ensures posts { self.new.posts ≡ self.old.posts }
+        ensures hidden { self.new.hidden ≡ self.old.hidden }
+    {
+        ask_named::<Brand>(&mut self.nodes, question)
+    }
+
+    /// Makes a step of what may have to be asked again.
+    pub fn step(&mut self, task: Task) -> TreeReply
+        ensures told { Stepped self.old.nodes.master.table task self.old.nodes self.old.hidden self.new.nodes
+            self.new.hidden result }
+        ensures posts { self.new.posts ≡ self.old.posts }
+    {
+        step_named::<Brand>(&mut self.nodes, &mut self.hidden, task)
+    }
 }
 
-/// The nodes after they were asked under this name, and what they return.
-fn ask_named<N: Naming>(nodes: NewTree, question: Question<'_>) -> (NewTree, TreeReply)
-    requires { nodes.master.table ≡ N.table }
-    ensures told { TreeAnswered nodes.master.table question.entry nodes result.0 result.1 }
-    ensures table { result.0.master.table ≡ nodes.master.table }
+/// Asks the nodes under this name.
+fn ask_named<N: Naming>(nodes: &mut NewTree, question: Question<'_>) -> TreeReply
+    requires { nodes.old.master.table ≡ N.table }
+    ensures told { TreeAnswered nodes.old.master.table question.entry nodes.old nodes.new result }
+    ensures table { nodes.new.master.table ≡ nodes.old.master.table }
 {
-    let mut locked = nodes.owned::<N>();
-    let reply = answer(&mut locked, question);
-    (locked.unnamed(), reply)
+    let locked = nodes.lent::<N>();
+    let reply = answer(locked, question);
+    let _ = locked.state();
+    reply
 }
 
-/// The tree after it was asked, and what it returns.
-pub fn ask(tree: Tree, question: Question<'_>) -> (Tree, TreeReply)
-    ensures told { TreeAnswered tree.nodes.master.table question.entry tree.nodes result.0.nodes result.1 }
-    ensures posts { result.0.posts ≡ tree.posts }
-    ensures hidden { result.0.hidden ≡ tree.hidden }
+/// A looker of the nodes under this name.
+fn looker_named<N: Naming>(nodes: &mut NewTree, alloc: Global) -> Result<TreeLooker, Refusal>
+    requires { nodes.old.master.table ≡ N.table }
+    ensures made { IfOk result (λ looker. IsLookerOf nodes.old.master.table nodes.old looker) }
+    ensures refused { IfErr result (λ why. NoLooker nodes.old nodes.new why) }
+    ensures same { Unchanged nodes.old nodes.new }
 {
-    let Tree {
-        nodes,
-        posts,
-        hidden,
-    } = tree;
-    let (nodes, reply) = ask_named::<Brand>(nodes, question);
-    (
-        Tree {
-            nodes,
-            posts,
-            hidden,
-        },
-        reply,
-    )
+    TreeLooker::of(alloc, nodes.lent::<N>())
 }
 
 /// Makes a step.
@@ -139,41 +163,21 @@ fn step_locked<N: Naming>(
     }
 }
 
-/// The nodes and the tokens after a step under this name, and what is returned.
+/// Makes a step of the nodes and the tokens under this name.
 fn step_named<N: Naming>(
-    nodes: NewTree,
-    mut hidden: Vec<Option<Token>>,
+    nodes: &mut NewTree,
+    hidden: &mut Vec<Option<Token>>,
     task: Task,
-) -> (NewTree, Vec<Option<Token>>, TreeReply)
-    requires table { nodes.master.table ≡ N.table }
-    requires tokens { AreTokensOf nodes.master.table hidden.items }
-    ensures told { Stepped nodes.master.table task nodes hidden.items result.0 result.1.items result.2 }
-    ensures table { result.0.master.table ≡ nodes.master.table }
-    ensures tokens { AreTokensOf nodes.master.table result.1.items }
+) -> TreeReply
+    requires table { nodes.old.master.table ≡ N.table }
+    requires tokens { AreTokensOf nodes.old.master.table hidden.old.items }
+    ensures told { Stepped nodes.old.master.table task nodes.old hidden.old.items nodes.new hidden.new.items
+        result }
+    ensures table { nodes.new.master.table ≡ nodes.old.master.table }
+    ensures tokens { AreTokensOf nodes.old.master.table hidden.new.items }
 {
-    let mut locked = nodes.owned::<N>();
-    let reply = step_locked(&mut locked, &mut hidden, task);
-    (locked.unnamed(), hidden, reply)
-}
-
-/// The tree after a step of what may have to be asked again, and what it returns.
-pub fn step(tree: Tree, task: Task) -> (Tree, TreeReply)
-    ensures told { Stepped tree.nodes.master.table task tree.nodes tree.hidden result.0.nodes result.0.hidden
-        result.1 }
-    ensures posts { result.0.posts ≡ tree.posts }
-{
-    let Tree {
-        nodes,
-        posts,
-        hidden,
-    } = tree;
-    let (nodes, hidden, reply) = step_named::<Brand>(nodes, hidden, task);
-    (
-        Tree {
-            nodes,
-            posts,
-            hidden,
-        },
-        reply,
-    )
+    let locked = nodes.lent::<N>();
+    let reply = step_locked(locked, hidden, task);
+    let _ = locked.state();
+    reply
 }

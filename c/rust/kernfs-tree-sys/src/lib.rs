@@ -37,6 +37,13 @@ pub struct kt_node_info {
 
 #[repr(C)]
 #[derive(Clone, Copy, Debug, Default)]
+pub struct kt_node_counts {
+    pub holds: u32,
+    pub users: u32,
+}
+
+#[repr(C)]
+#[derive(Clone, Copy, Debug, Default)]
 pub struct kt_command_counts {
     pub stored: u64,
     pub compacted: u64,
@@ -61,6 +68,7 @@ extern "C" {
     pub fn kt_clear(handle: *mut kt_handle) -> i32;
     pub fn kt_delete(handle: kt_handle) -> i32;
     pub fn kt_create_root(tree: *mut kt_handle, slots: u32, holds: u32) -> i32;
+    pub fn kt_create_root_with_looks(tree: *mut kt_handle, slots: u32, holds: u32, looks: u32) -> i32;
     pub fn kt_root(tree: *mut kt_handle, out: *mut kt_key) -> i32;
     pub fn kt_create_dir(
         tree: *mut kt_handle, parent: kt_key, name: *const c_void, length: usize, live: bool, out: *mut kt_key,
@@ -81,11 +89,13 @@ extern "C" {
         tree: *mut kt_handle, dir: kt_key, after: *const c_void, length: usize, name: *mut c_void, size: usize,
     ) -> i64;
     pub fn kt_stat(tree: *mut kt_handle, key: kt_key, out: *mut kt_node_info) -> i32;
+    pub fn kt_counts(tree: *mut kt_handle, key: kt_key, out: *mut kt_node_counts) -> i32;
     pub fn kt_parent(tree: *mut kt_handle, key: kt_key, out: *mut kt_key) -> i32;
     pub fn kt_name(tree: *mut kt_handle, key: kt_key, name: *mut c_void, size: usize) -> i64;
     pub fn kt_path(tree: *mut kt_handle, key: kt_key, path: *mut c_void, size: usize) -> i64;
     pub fn kt_readlink(tree: *mut kt_handle, key: kt_key, text: *mut c_void, size: usize) -> i64;
     pub fn kt_hold(tree: *mut kt_handle, key: kt_key, hold: *mut kt_handle) -> i32;
+    pub fn kt_looker(tree: *mut kt_handle, looker: *mut kt_handle) -> i32;
     pub fn kt_remove(tree: *mut kt_handle, key: kt_key) -> i32;
     pub fn kt_hide(tree: *mut kt_handle, key: kt_key) -> i32;
     pub fn kt_unhide(tree: *mut kt_handle, key: kt_key) -> i32;
@@ -95,6 +105,8 @@ extern "C" {
     pub fn kt_event_open(tree: *mut kt_handle, key: kt_key, post: *mut kt_handle) -> i32;
     pub fn kt_open(tree: *mut kt_handle, key: kt_key, read: bool, write: bool, file: *mut kt_handle) -> i32;
     pub fn kt_dup(hold: *mut kt_handle, other: *mut kt_handle) -> i32;
+    pub fn kt_look(looker: *mut kt_handle, path: *const c_void, length: usize, out: *mut kt_key) -> i32;
+    pub fn kt_pin(looker: *mut kt_handle, key: kt_key, hold: *mut kt_handle) -> i32;
     pub fn kt_enter(hold: *mut kt_handle) -> i32;
     pub fn kt_leave(call: *mut kt_handle) -> i32;
     pub fn kt_break(call: *mut kt_handle) -> i32;

@@ -4,10 +4,11 @@ use Rattle.kf_handles.specs.Removing.{Ends}
 use Rattle.kf_handles.proofs.Ends.{both_ends, no_end}
 use Rattle.kf_handles.proofs.removal.take_marked.Goals as goal
 
--- the hold of the node changes nothing
+-- shown first, and the hold of the node changes nothing
 pub returns-in-Ok-clause-ends : goal.returns-in-Ok-clause-ends
 returns-in-Ok-clause-ends g c =
     let keys = c.args.key ∷ [] in
-    both_ends keys c.args.locked.now c.hold.new.self c.take_out.new.locked
-    (no_end keys c.args.locked.now c.hold.new.self c.hold.ensures.state c.hold.ensures.claims)
-    (subst (λ (k : Key). Ends (k ∷ []) c.hold.new.self c.take_out.new.locked) c.in-Ok.ensures.hold.key_is c.take_out.ensures.ends)
+    both_ends keys c.args.locked.now c.unhide_first.new.locked c.unlink.new.locked c.unhide_first.ensures.ends
+    (both_ends keys c.unhide_first.new.locked c.hold.new.self c.unlink.new.locked
+    (no_end keys c.unhide_first.new.locked c.hold.new.self c.hold.ensures.state c.hold.ensures.claims)
+    (subst (λ (k : Key). Ends (k ∷ []) c.hold.new.self c.unlink.new.locked) c.in-Ok.ensures.hold.key_is c.unlink.ensures))

@@ -4,7 +4,7 @@ use Rattle.kf_handles.proofs.tree.step_named.Goals as goal
 
 -- the name is that of the table of words
 pub step_locked-reply-requires : goal.step_locked-reply-requires
-step_locked-reply-requires g c = subst (λ t. AreTokensOf t c.args.hidden.items) c.requires.table c.requires.tokens
+step_locked-reply-requires g c = subst (λ t. AreTokensOf t c.args.hidden.now.items) c.requires.table c.requires.tokens
 
 pub returns-clause-tokens : goal.returns-clause-tokens
 returns-clause-tokens g c =

@@ -1,0 +1,5 @@
+use Rattle.kf_handles.proofs.tree.Tree.looker.Given as goal
+
+-- the tree that is asked
+abbrev pub ghosts-looker_named : goal.ghosts-looker_named
+ghosts-looker_named a = record { table = a.nodes.now.master.table }

@@ -1,7 +1,0 @@
-use Rattle.std.proofs.Common.{subst, sym}
-use Rattle.kf_words.specs.Callers.{TableId}
-use Rattle.kf_handles.specs.Kept.{AreTokensOf}
-use Rattle.kf_handles.proofs.tree.ask.Goals as goal
-
-pub invariant_of-result : goal.invariant_of-result
-invariant_of-result c = subst (λ (t : TableId). AreTokensOf t c.tree.inside.hidden.items) (sym c.ask_named-nodes.ensures.table) c.tree.invariant

@@ -1,5 +1,0 @@
-use Rattle.kf_handles.proofs.tree.ask.Given as goal
-
--- the tree that is asked
-abbrev pub ghosts-ask_named : goal.ghosts-ask_named
-ghosts-ask_named a = record { table = a.nodes.master.table }

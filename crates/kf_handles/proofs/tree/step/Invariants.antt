@@ -1,5 +1,0 @@
-use Rattle.kf_handles.proofs.tree.step.Given as goal
-
--- the tree that is asked
-abbrev pub ghosts-step_named : goal.ghosts-step_named
-ghosts-step_named a = record { table = a.nodes.master.table }
