@@ -9,6 +9,7 @@ finds the same in a second run. The status is 0 if nothing is found, 1 if someth
 nothing can be mounted."""
 import argparse
 import math
+import os
 import time
 
 import fakesys
@@ -23,11 +24,10 @@ FOUND = 1
 RUNS = 1000
 MOST_TRIED = 3  # points of a find that are repeated until one does it again
 MOST_CALM = 60  # calm runs that look for a status
-SHARE = 0.9  # of the time: the rest is for repetitions
 
 
 class Find:
-    """A fault, and the points at which it came."""
+    """A fault, the points at which it came, and the one of these that is reported."""
 
     def __init__(self, ending, key):
         self.ending, self.key, self.points = ending, key, []
@@ -36,15 +36,19 @@ class Find:
     def line(self):
         return self.best.line()
 
+    def is_sure(self):
+        return self.again == fakesys_report.TIMES
+
 
 class Search:
     """The runs of one exploration."""
 
-    def __init__(self, options, rooms):
-        self.options, self.rooms, self.verdict = options, rooms, Verdict(options.ok)
+    def __init__(self, options, rooms, known):
+        self.options, self.rooms, self.known, self.verdict = options, rooms, known, Verdict(options.ok)
         self.description = fakesys.Description(options.text)
         self.places = Places(self.description, options.device)
-        self.calm_lines, self.steps, self.results = set(), [], {}
+        self.calm_lines, self.steps = set(), []
+        self.tried, self.found, self.finds = [], {}, []
 
     # ---- calm runs ----
 
@@ -52,8 +56,9 @@ class Search:
         """Runs the command twice with nothing wrong. Its steps are those that both runs made."""
         self.calm_run([])
         first, second = (self.calm_run([], steps=True) for _ in range(2))
-        made = {Step(*step) for step in second["steps"]}
-        self.steps = [step for step in (Step(*it) for it in first["steps"]) if step in made]
+        made = {tuple(it[:3]) for it in second["steps"]}
+        steps = [Step(*it[:3], tuple(it[3])) for it in first["steps"]]
+        self.steps = [step for step in steps if step.name() in made]
 
     def calm_run(self, lines, **more):
         happened = self.rooms.run(lines, **more)
@@ -71,75 +76,82 @@ class Search:
         if not self.verdict.is_fault(ending):
             return False
         if ending.is_plain():
-            for line in self.calm_changes(point):
-                self.learn(line)
+            for lines in self.calm_changes(point):
+                self.learn(lines)
                 if not self.verdict.is_fault(ending):
                     return False
         return True
 
-    def learn(self, line):
-        if line in self.calm_lines or len(self.calm_lines) >= MOST_CALM:
+    def learn(self, lines):
+        if lines in self.calm_lines or len(self.calm_lines) >= MOST_CALM:
             return
-        self.calm_lines.add(line)
-        happened = self.rooms.run([line], fresh=True)
+        self.calm_lines.add(lines)
+        happened = self.rooms.run(lines, fresh=True)
         if "refused" not in happened:
             self.verdict.learn(Ending(happened["code"], happened["said"]))
 
     def calm_changes(self, point):
-        """Lines before the start of a calm run: first what this point changes, then each kind of device absent, and each
-        kind of file failing."""
-        yield point.change().replace("replug", "unplug")
-        shapes = set()
-        for step in self.steps:
-            changes = [f"unplug {device}" for device in sorted(self.places.of_step(step))]
-            if step.kind == "read" and step.path in self.places.files:
-                changes.append(f"fail {step.path} {ERRORS['EIO']}")
-            for line in changes:
-                if shape_of(line) not in shapes:
-                    shapes.add(shape_of(line))
-                    yield line
+        """Lines before the start of a calm run: first what this point changes, then all devices absent, all files failing,
+        and each kind of device absent or file failing."""
+        yield (point.change().replace("replug", "unplug"),)
+        devices = {device for step in self.steps for device in self.places.of_step(step)}
+        outer = sorted(it for it in devices if not self.places.above(os.path.dirname(it)) & devices)
+        read = dict.fromkeys(step.path for step in self.steps if step.kind == "read" and step.path in self.places.files)
+        unplugs, fails = [f"unplug {it}" for it in outer], [f"fail {it} {ERRORS['EIO']}" for it in read]
+        yield from (tuple(lines) for lines in (unplugs, fails) if lines)
+        kinds = {shape_of(line): line for line in [*(f"unplug {it}" for it in sorted(devices)), *fails][::-1]}
+        yield from ((line,) for line in list(kinds.values())[::-1])
 
     # ---- the search ----
 
     def points(self):
-        return in_order(points_of(self.steps, self.places, self.options.actions))
+        """All points, in the order in which they are tried. Those of known finds are first, so that what is like them is
+        known too."""
+        points = in_order(points_of(self.steps, self.places, self.options.actions))
+        return sorted(points, key=lambda point: point.line() not in self.known)
 
-    def explore(self):
-        """Tries the points within the budget. Returns all points, those that were tried, and the finds in order."""
-        started = time.monotonic()
+    def explore(self, show):
+        """Tries the points within the budget, and shows each find as soon as it is sure. Returns all points."""
+        until = time.monotonic() + self.options.seconds
         self.see_steps()
         points = self.points()
         if not points:
             raise fakesys_run.Refused("the command makes no step that depends on a device")
         chosen = points[: self.options.runs or None]
-        until = started + self.options.seconds * SHARE
         for at, happened in self.rooms.run_all([[point.line()] for point in chosen], self.options.jobs, until):
-            self.results[at] = happened
-        tried = [(chosen[at], happened) for at, happened in sorted(self.results.items())]
-        return points, tried, self.finds(tried)
+            self.tried.append((chosen[at], happened))
+            if find := self.find_at(chosen[at], happened):
+                if find.is_sure() and find not in self.finds:
+                    self.keep(find, show)
+        for find in self.found.values():
+            if find not in self.finds:
+                self.keep(find, show)
+        return points
 
-    def finds(self, tried):
-        """The faults among the runs, alike ones together, in the order of the points."""
-        found = {}
-        for point, happened in tried:
-            if "refused" in happened:
-                continue
-            ending = Ending(happened["code"], happened["said"])
-            if self.is_fault(point, ending):
-                key = (shape_of(ending.what()), shape_of(ending.headline()), *point.group())
-                found.setdefault(key, Find(ending, key)).points.append(point)
-        for find in found.values():
-            self.repeat(find)
-        return list(found.values())
+    def keep(self, find, show):
+        find.is_known = any(point.line() in self.known for point in find.points)
+        self.finds.append(find)
+        show(find)
 
-    def repeat(self, find):
-        """Repeats a find. If its first point does not do it again, another one may."""
-        for point in find.points[:MOST_TRIED]:
-            again = sum(self.is_again(find, point) for _ in range(fakesys_report.TIMES))
-            if not find.best or again > find.again:
-                find.best, find.again = point, again
-            if again:
-                return
+    def find_at(self, point, happened):
+        """The find that a run belongs to, or None. Runs are alike if they end alike after a like change."""
+        if "refused" in happened:
+            return None
+        ending = Ending(happened["code"], happened["said"])
+        if not self.is_fault(point, ending):
+            return None
+        key = (shape_of(ending.what()), shape_of(ending.headline()), *point.group())
+        find = self.found.setdefault(key, Find(ending, key))
+        find.points.append(point)
+        if not find.is_sure() and len(find.points) <= MOST_TRIED:
+            self.repeat(find, point)
+        return find
+
+    def repeat(self, find, point):
+        """Repeats a find at a point. If its first point does not do it each time, another one may."""
+        again = sum(self.is_again(find, point) for _ in range(fakesys_report.TIMES))
+        if not find.best or again > find.again:
+            find.best, find.again = point, again
 
     def is_again(self, find, point):
         happened = self.rooms.run([point.line()], restart=True)
@@ -179,14 +191,12 @@ def explore(options, parser):
     known = read_known(options.known)
     with fakesys_report.Files(options) as files:
         rooms = Rooms(options)
-        search = Search(options, rooms)
+        search = Search(options, rooms, known)
         if options.at:
             status = try_at(options, search)
         else:
-            points, tried, finds = search.explore()
-            for find in finds:
-                find.is_known = any(point.line() in known for point in find.points)
-            report = fakesys_report.Report(options, points, tried, finds)
+            points = search.explore(lambda find: fakesys_report.show(options, find))
+            report = fakesys_report.Report(options, points, search.tried, search.finds)
             report.print()
             files.write(report)
             status = FOUND if report.failing() else 0

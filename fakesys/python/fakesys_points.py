@@ -28,25 +28,48 @@ def shape_of(path):
 
 
 class Step(typing.NamedTuple):
-    """The `number`-th step of a kind at a path, which is a word of a line."""
+    """The `number`-th step of a kind at a path, which is a word of a line. `call` is the last step of the system call that
+    this one is part of, as (kind, path, number): an open of /class/x/y begins with look-ups of /class and /class/x."""
 
     kind: str
     path: str
     number: int
+    call: tuple
+
+    def name(self):
+        return self[:3]
 
 
 class Trace:
-    """What a run did: its steps in order, and whether the lines of a point ran."""
+    """What a run did: its steps in order, as (kind, path, number), and whether the lines of a point ran."""
 
     def __init__(self, text):
-        self.steps, self.is_reached = [], False
-        for line in text.split("\n")[:-1]:
-            kind, path, number, *rest = line.split(" ")
-            self.steps.append(Step(kind, path, int(number)))
-            self.is_reached |= rest[-1] == "!"
+        words = [line.split(" ") for line in text.split("\n")[:-1]]
+        self.steps = [(kind, path, int(number)) for kind, path, number, *_ in words]
+        self.threads = [it[3] for it in words]
+        self.is_reached = any(it[-1] == "!" for it in words)
 
     def written(self):
-        return sorted({step.path for step in self.steps if step.kind == "write"})
+        return sorted({path for kind, path, _ in self.steps if kind == "write"})
+
+    def with_calls(self):
+        """The steps, each with its call."""
+        found, following = [], {}
+        for step, thread in zip(reversed(self.steps), reversed(self.threads)):
+            after = following.get(thread)
+            following[thread] = Step(*step, after.call if after and is_same_call(step, after) else step)
+            found.append(following[thread])
+        return found[::-1]
+
+
+def is_same_call(step, after):
+    """Whether a step and the one after it, of the same thread, are on the way along one path."""
+    kind, path, _ = step
+    if kind not in WALKS:
+        return False
+    if after.kind in ("lookup", "stat") and after.path.startswith(path + "/"):
+        return True
+    return after.path == path and after.kind in ("stat", "open", "readlink")
 
 
 class Point(typing.NamedTuple):
@@ -67,10 +90,24 @@ class Point(typing.NamedTuple):
     def line(self):
         return f"at {self.step.kind} {self.step.path} {self.step.number} {self.change()}"
 
+    def family(self):
+        return "device" if self.action in DEVICES else "file" if self.action in ERRORS else "text"
+
+    def kind(self):
+        """The kind of device or file: all processors are of one kind."""
+        return shape_of(self.place)
+
     def group(self):
         """Which points are alike enough that the same end is the same find: what goes or fails, of which kind."""
-        kind = "device" if self.action in DEVICES else "file" if self.action in ERRORS else "text"
-        return kind, shape_of(self.place)
+        return self.family(), self.kind()
+
+    def of_call(self):
+        """The kind of the call that meets the change, and of its path."""
+        return self.step.call[0], shape_of(self.step.call[1]), self.kind()
+
+    def is_near(self):
+        """Whether that call is on the device itself, or on a list or link of it, and not on something inside it."""
+        return self.action in DEVICES and not self.step.call[1].startswith(self.place + "/")
 
 
 class Places:
@@ -103,54 +140,63 @@ class Places:
         return found | self.of_list.get(step.path, set()) if step.kind == "list" else found
 
 
-def goes_on(before, step):
-    """Whether a step continues the walk along a path of the one before: if a name on the way is gone, the whole path is."""
-    if not before or step.kind not in ("lookup", "stat") or before.kind not in WALKS:
-        return False
-    return step.path.startswith(before.path + "/") or (step.path == before.path and step.kind == "stat")
-
-
 def points_of(steps, places, actions=ACTIONS):
-    """All points of a run."""
-    last = {}
+    """All points of a run. Of the steps of one call only the first one counts that depends on a device, besides the last
+    one, which opens or reads something: if a name on the way is gone, the whole path is."""
+    seen = set()
     for step in steps:
         for device in sorted(places.of_step(step)):
-            before, last[device] = last.get(device), step
-            if not goes_on(before, step):
+            if (device, step.call) not in seen or step.kind not in ("lookup", "stat"):
                 yield from (Point(action, device, step) for action in DEVICES if action in actions)
+            seen.add((device, step.call))
         if step.kind == "read" and step.path in places.files:
             yield from (Point(action, step.path, step) for action in ERRORS if action in actions)
             if step.number == 1:
                 yield from (Point(action, step.path, step) for action in TEXTS if action in actions)
 
 
+# What points have in common, from coarse to fine. Bugs are between a call that saw a device and the next one that takes
+# it for granted, so what counts is the call at which something changes, and not the step of this call. Numbers are left
+# out of paths, so that 64 processors are tried as one before each of them is.
+SORTS = (
+    lambda it: (it.family(), it.step.call[0], it.kind()),
+    lambda it: it.is_near() and (it.family(), *it.of_call(), it.step.call[2]),
+    lambda it: (it.family(), *it.of_call()),
+    lambda it: (it.action, it.step.kind, *it.of_call()),
+    lambda it: (it.family(), *it.of_call(), it.step.call[2]),
+    lambda it: (it.family(), it.step.call[0], it.place),
+)
+
+
 def in_order(points):
-    """Points in the order in which they are tried: first each action at each kind of step of each kind of device, then at
-    each kind of path, then of each device, then the rest. The order does not depend on the order in which threads made the
-    steps."""
-    points = sorted(points, key=lambda it: (it.step.number, it.step.path, it.step.kind, it.place, ACTIONS.index(it.action)))
-    sorts = (
-        lambda it: (it.action, it.step.kind, shape_of(it.place)),
-        lambda it: (it.action, it.step.kind, shape_of(it.step.path), shape_of(it.place)),
-        lambda it: (it.action, it.step.kind, it.place),
-    )
-    seen, ranked = [set() for _ in sorts], []
-    for at, point in enumerate(points):
-        rank = next((rank for rank, sort in enumerate(sorts) if sort(point) not in seen[rank]), len(sorts))
-        for known, sort in zip(seen, sorts):
-            known.add(sort(point))
-        ranked.append((rank, at, point))
-    return list(taken_in_turns(ranked))
+    """Points in the order in which they are tried: the first ones of each sort, from coarse to fine, then the rest. The
+    order does not depend on the order in which threads made the steps."""
+    points = sorted(points, key=lambda it: (it.step.name()[::-1], it.place, ACTIONS.index(it.action)))
+    seen, ranks = [set() for _ in SORTS], [[] for _ in range(len(SORTS) + 1)]
+    for point in points:
+        sorts = [sort(point) for sort in SORTS]
+        rank = next((at for at, it in enumerate(sorts) if it and it not in seen[at]), len(SORTS))
+        for known, it in zip(seen, sorts):
+            known.add(it)
+        ranks[rank].append(point)
+    return [point for rank in ranks for point in by_turns(rank, Point.family, Point.kind, lambda it: it.action)]
 
 
-def taken_in_turns(ranked):
-    """The points of each rank, by turns one of each action: so a budget that ends early has tried all actions."""
-    for rank in sorted({rank for rank, _, _ in ranked}):
-        queues = {action: collections.deque() for action in ACTIONS}
-        for _, _, point in (it for it in ranked if it[0] == rank):
-            queues[point.action].append(point)
-        while any(queues.values()):
-            yield from (queue.popleft() for queue in queues.values() if queue)
+def by_turns(points, sort, *others):
+    """Points by turns, one of each sort, and those of a sort again by turns of the other sorts. So a budget that ends
+    early has tried something of each, however many points one of them has."""
+    queues = {}
+    for point in points:
+        queues.setdefault(sort(point), []).append(point)
+    turns = [iter(by_turns(queue, *others) if others else queue) for queue in queues.values()]
+    while turns:
+        left = []
+        for turn in turns:
+            point = next(turn, None)
+            if point:
+                yield point
+                left.append(turn)
+        turns = left
 
 
 class Healing:

@@ -2,7 +2,9 @@
 """The reports of an exploration: on standard output, as JSON, and as the XML of JUnit."""
 import contextlib
 import json
+import os
 import shlex
+import signal
 from xml.sax.saxutils import escape, quoteattr
 
 import fakesys_run
@@ -15,9 +17,28 @@ def again(options, line):
     """The command line that repeats a find."""
     words = ["fakesys", "explore", "--at", line]
     words += ["-a"] * options.all + ["-n"] * options.network
-    for name, value in ("--slots", options.slots), ("--poke", options.poke):
-        words += [name, str(value)] if value is not None else []
+    for name in "slots", "order", "keep", "poke":
+        value = getattr(options, name)
+        words += [f"--{name}", str(value)] if value is not None else []
+    for name, default in ("hang", 10), ("calm", 10), ("ok", [0]):
+        value = getattr(options, name)
+        words += [f"--{name}", ",".join(map(str, value)) if name == "ok" else f"{value:g}"] if value != default else []
     return shlex.join([*words, options.description, "--", *options.command])
+
+
+def show(options, find):
+    """Prints a find at once, since the exploration may take long. If nobody reads on, as after `| head`, the program ends."""
+    lines = [
+        f"{'KNOWN' if find.is_known else 'FOUND'}: {find.ending.what()}",
+        f"    {find.line()}",
+        *(f"      | {line}" for line in find.ending.telling()[:SHOWN] if line),
+        f"  repeated {find.again} of {TIMES} times:",
+        f"  {again(options, find.line())}",
+    ]
+    try:
+        print("\n".join(lines), flush=True)
+    except BrokenPipeError:
+        os._exit(128 + signal.SIGPIPE)
 
 
 class Files:
@@ -56,12 +77,10 @@ class Report:
         return [find for find in self.finds if not find.is_known]
 
     def print(self):
+        """Prints what is known only at the end."""
         for find in self.finds:
-            print(f"{'KNOWN' if find.is_known else 'FOUND'}: {find.ending.what()}")
-            print(f"    {find.line()}")
-            print("".join(f"      | {line}\n" for line in find.ending.telling()[:SHOWN] if line), end="")
-            print(f"  {len(find.points)} points do this; repeated {find.again} of {TIMES} times:")
-            print(f"  {again(self.options, find.line())}")
+            if len(find.points) > 1:
+                print(f"{len(find.points)} points end like this one: {find.line()}")
         if missed := sum(not happened.get("is_reached") for _, happened in self.tried):
             print(f"in {missed} runs the program did not make the step")
         if left := len(self.points) - len(self.tried):

@@ -3,7 +3,7 @@
 import contextlib
 import json
 import os
-import selectors
+import select
 import signal
 import socket
 import subprocess
@@ -173,7 +173,7 @@ class Room:
             "code": code,
             "said": said,
             "is_reached": trace.is_reached,
-            "steps": [tuple(step) for step in trace.steps] if job.get("steps") else [],
+            "steps": trace.with_calls() if job.get("steps") else [],
         }
 
     def serve(self, channel):
@@ -223,6 +223,7 @@ class Rooms:
 
     def __init__(self, options):
         self.options, self.rooms = options, []
+        self.busy, self.heard = {}, {}  # the job of each room that has one; what happened in jobs that ended
         self.open()
 
     def open(self):
@@ -265,30 +266,46 @@ class Rooms:
         return heard
 
     def run(self, lines, **more):
-        """Runs the command under these lines in the first room."""
+        """Runs the command under these lines in the first room. If that room has a job, it ends it first."""
+        if self.rooms[0].child in self.busy:
+            self.finish(self.rooms[0])
         Room.say(self.rooms[0].lines, {"lines": lines, **more})
         return self.hear(self.rooms[0])
 
     def run_all(self, jobs, count, until):
-        """Runs jobs in `count` rooms, until a time. Yields the number of each that ended, and what happened."""
+        """Runs jobs in `count` rooms, until a time. Yields the number of each and what happened, in order. Meanwhile the
+        caller may run other lines."""
         while len(self.rooms) < min(count, len(jobs)):
             self.open()
-        waiting, busy = iter(enumerate(jobs)), {}
-        with selectors.DefaultSelector() as selector:
+        waiting, following = iter(enumerate(jobs)), 0
+        while True:
             for room in self.rooms:
-                selector.register(room.socket, selectors.EVENT_READ, room)
-                self.hand_out(room, waiting, busy, until)
-            while busy:
-                for key, _ in selector.select():
-                    room = key.data
-                    heard = self.hear(room)
-                    yield busy.pop(room.child), heard
-                    self.hand_out(room, waiting, busy, until)
+                if room.child not in self.busy:
+                    self.hand_out(room, waiting, until)
+            if following in self.heard:
+                yield following, self.heard.pop(following)
+                following += 1
+            elif self.busy:
+                self.finish_some()
+            else:
+                return
 
-    def hand_out(self, room, waiting, busy, until):
+    def finish(self, room):
+        """Waits until a room has ended its job."""
+        heard = self.hear(room)
+        self.heard[self.busy.pop(room.child)] = heard
+
+    def finish_some(self):
+        busy = [room for room in self.rooms if room.child in self.busy]
+        ready = select.select([room.socket for room in busy], [], [])[0]
+        for room in busy:
+            if room.socket in ready:
+                self.finish(room)
+
+    def hand_out(self, room, waiting, until):
         job = next(waiting, None) if time.monotonic() < until else None
         if job:
-            busy[room.child] = job[0]
+            self.busy[room.child] = job[0]
             Room.say(room.lines, {"lines": job[1]})
 
     def close(self):

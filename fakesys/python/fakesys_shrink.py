@@ -9,6 +9,7 @@ does not; 2 for a usage error; 125 if nothing can be mounted."""
 import argparse
 import os
 import re
+import signal
 import subprocess
 import sys
 import tempfile
@@ -24,6 +25,8 @@ LONG = 3  # the first tries take this much longer, so that a rare fault comes ag
 HALF = 0.5  # of the time is for the exploration
 RUNS = 400  # points that it tries
 CALM = 0.3  # seconds without a storm before each try
+REPLAYED = 3  # seconds of each try
+ON_DEATH_OF_PARENT = 1
 FOUND, NOT_AGAIN = 1, 1
 
 
@@ -84,10 +87,11 @@ class Shrinker:
         self.tries += 1
         write(lines, self.part)
         words = ["storm", "--replay", self.part, "--time", str(seconds), "--calm", str(CALM), *self.words]
-        ran = fakesys_again([*words, self.options.description, "--", *self.options.command])
-        if ran.returncode not in (0, FOUND):
-            raise fakesys_run.Refused(f"the storm cannot be replayed: {ran.stderr.strip()[-500:] or ran.stdout[-500:]}")
-        found = re.search(r"FOUND after [\d.]+ s: (?:it )?(.*)", ran.stdout)
+        with fakesys_again([*words, self.options.description, "--", *self.options.command]) as storm:
+            said = storm.stdout.read()
+        if storm.returncode not in (0, FOUND):
+            raise fakesys_run.Refused(f"the storm cannot be replayed: {said.strip()[-500:]}")
+        found = re.search(r"FOUND after [\d.]+ s: (?:it )?(.*)", said)
         return found[1] if found else None
 
     def fails(self, lines):
@@ -105,7 +109,7 @@ class Shrinker:
         if not found:
             return None
         self.what, lines = alike(found), lines[-count:]
-        print(f"fakesys shrink: it {found} under the last {len(lines)} lines", flush=True)
+        print(f"fakesys shrink: {found} under the last {len(lines)} lines", flush=True)
         groups = reduced(groups_of(lines), lambda some: self.fails(together(some)), self.is_time)
         lines = together(groups)
         for line in list(lines) if len(lines) > 1 else ():
@@ -120,17 +124,26 @@ def alike(end):
     return end and shape_of(end)
 
 
+def timeline(lines):
+    return [f"{at - lines[0][0]:.3f} {line}\n" for at, line in lines]
+
+
 def write(lines, name):
-    first = lines[0][0] if lines else 0
     with open(name, "w", encoding="utf-8", errors="surrogateescape") as file:
-        file.writelines(f"{at - first:.3f} {line}\n" for at, line in lines)
+        file.writelines(timeline(lines))
 
 
-def fakesys_again(words):
-    """Runs this program with other words."""
+def fakesys_again(words, **more):
+    """Starts this program with other words. It ends if this process does."""
     program = os.path.realpath(sys.argv[0])
-    return subprocess.run(
-        [sys.executable, program, *words], stdin=subprocess.DEVNULL, capture_output=True, text=True, errors="replace", check=False
+    more = {"stdout": subprocess.PIPE, "stderr": subprocess.STDOUT, **more}
+    return subprocess.Popen(
+        [sys.executable, program, *words],
+        stdin=subprocess.DEVNULL,
+        text=True,
+        errors="replace",
+        preexec_fn=lambda: fakesys.system_call("prctl", ON_DEATH_OF_PARENT, signal.SIGTERM),
+        **more,
     )
 
 
@@ -147,34 +160,36 @@ def devices_in(lines, description):
 
 
 def explored(options, words, lines, seconds):
-    """What an exploration of the devices in these lines, or of all if there are none, prints about its finds."""
+    """Explores the devices in these lines, or all if there are none, which prints each find at once. Returns whether there
+    is one."""
     devices = devices_in(lines, fakesys.Description(options.text))
     if seconds <= 0:
-        return None
+        return False
     limits = ["--seconds", f"{seconds:.0f}", "--runs", str(RUNS)]
     named = [word for device in devices for word in ("--device", device)]
-    ran = fakesys_again(["explore", *limits, *named, *words, options.description, "--", *options.command])
-    return ran.stdout[: ran.stdout.rfind("\n", 0, -1) + 1] if ran.returncode == FOUND else None
+    words = ["explore", *limits, *named, *words, options.description, "--", *options.command]
+    with fakesys_again(words, stdout=None, stderr=None) as exploration:
+        return exploration.wait() == FOUND
 
 
-def shrink_and_explore(options, lines, words):
+def shrink_and_explore(options, lines):
     """Shrinks lines, explores what is left, and prints both. Returns the lines that are left, or None."""
-    started = time.monotonic()
+    started, words = time.monotonic(), words_of(options)
     shrinker = Shrinker(options, words)
     left = shrinker.shrink(lines)
     if not left:
         print(f"fakesys shrink: it does not fail again in {shrinker.tries} tries")
         return None
     print(f"fakesys shrink: {len(left)} of {len(lines)} lines are left after {shrinker.tries} tries", flush=True)
-    shown = explored(options, words, left, options.time - (time.monotonic() - started))
-    print(shown or "fakesys shrink: no single step repeats it", end="" if shown else "\n")
+    if not explored(options, words, left, options.time - (time.monotonic() - started)):
+        print("fakesys shrink: no single step repeats it")
     return left
 
 
 def words_of(options):
     """The options that a storm and an exploration share."""
     words = ["-a"] * options.all + ["-n"] * options.network
-    for name in "slots", "poke", "hang":
+    for name in "slots", "order", "keep", "poke", "hang":
         if getattr(options, name) is not None:
             words += [f"--{name}", str(getattr(options, name))]
     return [*words, "--ok", ",".join(map(str, options.ok))]
@@ -189,14 +204,17 @@ def shrink(options, parser):
     if options.description == "-":
         parser.error("the description is read again and again, so it must be a file")
     options.text = fakesys_run.read_text(options.description)
-    lines = [it for it in fakesys_run.read_timeline(options.lines) if not it[1].startswith("#")]
+    lines = lines_of(options.lines)
     if not lines:
         raise fakesys_run.Refused(f"{options.lines}: no lines")
     if options.output:
         check_output(options.output)
-    left = shrink_and_explore(options, lines, words_of(options))
+    left = shrink_and_explore(options, lines)
     if left:
-        write(left, options.output or "/dev/stdout")
+        if options.output:
+            write(left, options.output)
+        else:
+            print("".join(timeline(left)), end="")
     return 0 if left else NOT_AGAIN
 
 
@@ -208,20 +226,30 @@ def check_output(name):
         raise fakesys_run.Refused(f"{name}: {error.strerror}") from None
 
 
-def after_storm(options, lines):
-    """What `fakesys storm` does with the lines in which it found something."""
-    if options.description != "-" and lines:
-        print(f"fakesys storm: shrinking {len(lines)} lines for up to {options.shrink:g} s", flush=True)
-        given = argparse.Namespace(**{**vars(options), "time": options.shrink, "seconds": 2})
-        left = shrink_and_explore(given, lines, words_of(options))
-        if left:
-            print("".join(f"    {at - left[0][0]:.3f} {line}\n" for at, line in left), end="")
+def lines_of(name):
+    return [it for it in fakesys_run.read_timeline(name) if not it[1].startswith("#")]
+
+
+def storm_and_shrink(options, words):
+    """`fakesys storm --shrink SECONDS`: runs the storm with the words that are given, and shrinks what it finds. Returns the
+    storm's exit status."""
+    with tempfile.TemporaryDirectory(prefix="fakesys-shrink-") as folder:
+        kept = options.output or os.path.join(folder, "kept.tl")
+        with fakesys_again(["storm", "-o", kept, *words], stdout=None, stderr=None) as storm:
+            status = storm.wait()
+        lines = lines_of(kept) if status == FOUND else None
+        if lines:
+            print(f"fakesys storm: shrinking {len(lines)} lines for up to {options.shrink:g} s", flush=True)
+            given = argparse.Namespace(**{**vars(options), "time": options.shrink, "seconds": REPLAYED})
+            left = shrink_and_explore(given, lines) or ()
+            print("".join(f"    {line}" for line in timeline(left)), end="")
+    return status
 
 
 def add_words(words):
     words.usage = "fakesys shrink [OPTION ..] LINES DESCRIPTION -- COMMAND .."
     add = words.add_argument
-    add("--seconds", type=float, default=3, help="how long a part is replayed (default 3)")
+    add("--seconds", type=float, default=REPLAYED, help=f"how long a part is replayed (default {REPLAYED})")
     add("--time", type=float, default=180, help="seconds in all, half of them for the exploration (default 180)")
     add("--poke", metavar="LINE", help="as for the storm")
     add("--hang", type=float, help="as for the storm")

@@ -17,6 +17,7 @@ import time
 import fakesys
 import fakesys_library
 import fakesys_run
+import fakesys_shrink
 from fakesys_blow import Blow, changed
 from fakesys_points import ERRORS, Trace, shape_of
 from fakesys_reader import Lost, Poke, Reader
@@ -109,7 +110,7 @@ class Storm:
             return False
         until = time.monotonic() + LEARNING
         with self.blow.paused():
-            reads = [step.path for step in self.steps if step.kind == "read"]
+            reads = [path for kind, path, _ in self.steps if kind == "read"]
             for lines in conditions(*self.blow.since(moment), list(dict.fromkeys(reads))):
                 if time.monotonic() > until:
                     break
@@ -188,16 +189,14 @@ def keep(options, blow):
         with options.file as file:
             with contextlib.suppress(OSError):  # if it is a pipe
                 file.truncate(0)
-            file.writelines(f"# {line}\n" for line in again(options).split("\n"))
+            file.writelines(f"# {line}\n" for line in shlex.join(again(options)).split("\n"))
             file.writelines(line_text(*it) + "\n" for it in list(blow.given))
 
 
 def again(options):
-    """The command line that repeats this storm."""
+    """The words of the command that repeats this storm."""
     source = ["--replay", options.replay] if options.replay else ["--seed", str(options.seed)]
-    return shlex.join(
-        ["fakesys", "storm", *source, *options.repeated, options.description, "--", *options.command]
-    )
+    return ["fakesys", "storm", *source, *options.repeated, options.description, "--", *options.command]
 
 
 def report(options, fault, storm):
@@ -212,7 +211,7 @@ def report(options, fault, storm):
     print("".join(f"    {line}\n" for line in fault.telling()), end="")
     print(f"  {summary(storm)}; the last lines:")
     print("".join(f"    {fakesys.printable(line_text(*it))}\n" for it in storm.blow.given[-SHOWN:]), end="")
-    print(f"  again: {fakesys.printable(again(options))}")
+    print(f"  again: {fakesys.printable(shlex.join(again(options)))}")
 
 
 def summary(storm):
@@ -271,6 +270,12 @@ def add_words(words):
     words.add_argument(
         "--replay", metavar="FILE", help="use the lines of FILE, again and again, instead of those of a seed"
     )
+    words.add_argument(
+        "--shrink",
+        type=float,
+        metavar="SECONDS",
+        help="make the lines of what is found few, and explore the devices that are left, in up to SECONDS more",
+    )
     words.add_argument("--print", action="store_true", help="print the lines and run nothing")
     words.add_argument("description", metavar="DESCRIPTION", type=fakesys_library.file_of)
     words.add_argument("command", metavar="COMMAND", nargs="...")
@@ -279,7 +284,7 @@ def add_words(words):
 
 def repeated_options(options, parser):
     """The options that were given, except for those that a repetition has otherwise."""
-    left_out, words = ("seed", "replay", "output", "print", "help"), []
+    left_out, words = ("seed", "replay", "output", "print", "help", "shrink"), []
     for action in (it for it in parser._actions if it.option_strings and it.dest not in left_out):
         value, name = getattr(options, action.dest), action.option_strings[-1]
         if value == action.default:
@@ -299,7 +304,7 @@ def storm(options, parser):
     """`fakesys storm`: its exit status."""
     if not options.command and not options.print:
         parser.error("COMMAND is missing")
-    times = options.time, options.calm, options.hang or 0
+    times = options.time, options.calm, options.hang or 0, options.shrink or 0
     if not all(0 <= it <= LONGEST for it in times) or not 1 <= options.rate <= 1000:
         parser.error("a time or the rate is out of range")
     options.file = open_output(options.output)
@@ -310,8 +315,16 @@ def storm(options, parser):
     if options.print:
         print_lines(lines, options.time)
         return 0
+    if options.shrink:
+        return shrunk(options)
     print(f"fakesys storm: {source_of(options)}", flush=True)
     return fakesys_run.with_tree(options, lambda place: blow_on(options, lines, place), True)
+
+
+def shrunk(options):
+    if options.description == "-":
+        raise fakesys_run.Refused("--shrink: the description is read again and again, so it must be a file")
+    return fakesys_shrink.storm_and_shrink(options, again(options)[2:])
 
 
 def open_output(name):

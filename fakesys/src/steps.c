@@ -37,6 +37,9 @@ static struct fuse_session *session; /* set before the first request */
 
 static atomic_bool is_on;            /* a run without points and without a trace pays one load for each step */
 static __thread bool is_in_step;
+/* How many `resume` lines there were when this thread's step was reached, and those that its pauses took since. So a
+ * `resume` counts that comes between an `await` of the step and the pause. */
+static __thread uint64_t resumed;
 
 bool read_kind(const char *word, enum step_kind *out)
 {
@@ -91,11 +94,11 @@ static double seconds_now(void)
 
 int pause_step(void)
 {
-    uint64_t before = resumes;
     if (!is_in_step)
         return -EINVAL;
-    while (resumes == before && wait_for_change())
+    while (resumes <= resumed && wait_for_change())
         continue;
+    resumed++;
     return 0;
 }
 
@@ -363,6 +366,7 @@ void step(enum step_kind kind, fuse_ino_t number, const char *name, fuse_req_t r
     lock_tree();
     name_place(number, name, path, sizeof path);
     char *lines = reach_points(kind, path);
+    resumed = resumes;
     if (trace)
         write_step(kind, path, req, lines != NULL);
     unlock_tree();

@@ -1,8 +1,9 @@
 # SPDX-License-Identifier: MIT OR Apache-2.0
 """Tests of `fakesys explore` and `fakesys shrink`, which test_tools runs."""
-import json, re, signal, sys, xml.etree.ElementTree
+import json, re, signal, subprocess, sys, xml.etree.ElementTree
 
 from mounted import must
+from programs import eventually, processes
 
 CHIP = "/devices/platform/coretemp.0/hwmon/hwmon0"
 # A reader that lists the chips and then trusts that they stay.
@@ -12,6 +13,11 @@ import os
 for name in os.listdir("/sys/class/hwmon"):
     open(f"/sys/class/hwmon/{name}/name").read()
 """
+# Two chips, and a reader that fails in the same way if there is none, and if one goes while it looks at it.
+TWO = ["/class", "/class/chip", "/devices", "/devices/a", "/devices/b"]
+TWO = [f"mkdir {it}\n" for it in TWO] + [f"file /devices/{it}/name 444 x\nlink /class/chip/{it} /devices/{it}\n" for it in "ab"]
+STRICT = """names=$(ls /sys/class/chip); [ "$names" ] || exit 7
+for name in $names; do [ -e /sys/class/chip/$name/name ] || exit 7; done"""
 SHORT = ["--actions", "unplug,EIO"]
 PATIENCE = 400  # seconds for an exploration, on a busy machine
 
@@ -50,6 +56,25 @@ def explored(tools):
     return f"{points} points, {count} finds"
 
 
+def at_once(tools):
+    """A find is printed while the exploration goes on"""
+    go, runs = tools.folder / "go", tools.folder / "runs"
+    waits = f"echo >> {runs}; [ $(wc -l < {runs}) -lt 40 ] || until [ -e {go} ]; do sleep 0.02; done; {TRUSTING}"
+    words = ["explore", "--actions", "unplug,EIO", "--hang", PATIENCE, tools.chip, "--", "sh", "-c", waits]
+    with subprocess.Popen(tools.command(*words), stdout=subprocess.PIPE, text=True) as explores:
+        try:
+            first = explores.stdout.readline()  # (the program waits in its run 40 until this line has come)
+            must(first == "FOUND: killed by SIGSEGV\n" and not go.exists(), first)
+        finally:
+            go.touch()
+        rest = explores.stdout.read()
+    must(explores.returncode == 1 and len(runs.read_text()) > 40 and "points" in rest, rest)
+    must(re.search(r"^\d+ points end like this one: at ", rest, re.M), rest)
+    words = tools.command("explore", *SHORT, tools.chip, "--", "sh", "-c", TRUSTING)
+    ran = subprocess.run(["sh", "-c", '"$@" | head -1', "sh", *words], capture_output=True, text=True, timeout=PATIENCE, check=False)
+    must((ran.stdout, ran.stderr) == ("FOUND: killed by SIGSEGV\n", ""), f"nobody reads on: {ran}")
+
+
 def reported(tools):
     """Its reports are JSON and JUnit's XML; a known find is reported and does not count; a budget is kept"""
     files = {kind: tools.folder / f"report.{kind}" for kind in ("json", "junit", "known")}
@@ -79,6 +104,8 @@ def judged(tools):
     ran = explore(tools, script=sound)
     must(ran.returncode == 0 and " 0 finds" in last_line(ran), f"a deliberate status: {ran}")
     must(int(last_line(ran).split()[0]) > 20, f"points: {ran}")
+    ran = tools.run("explore", tools.file("two.kf", "".join(TWO)), "--", "sh", "-c", STRICT, timeout=PATIENCE)
+    must(ran.returncode == 0 and " 0 finds" in last_line(ran), f"a status that it has if all devices are absent: {ran}")
     strange = "for chip in $(ls /sys/class/hwmon); do [ -e /sys/class/hwmon/$chip/name ] || exit 4; done"
     ran = explore(tools, "--actions", "unplug", script=strange)
     must(ran.returncode == 1 and found_in(ran)[0][0] == "status 4", f"a status that no calm run had: {ran}")
@@ -93,7 +120,7 @@ def judged(tools):
     reader = tools.file("once.py", ONCE)
     ran = tools.run("explore", "--actions", "unplug", "--runs", "8", tools.chip, "--", sys.executable, reader, timeout=PATIENCE)
     must(ran.returncode == 1 and found_in(ran)[0][0].startswith("traceback: FileNotFoundError"), f"a traceback: {ran}")
-    stored = f"read t < /sys{CHIP}/temp1_max || exit 0; [ $t = 80000 ] || kill -SEGV $$; echo 1 > /sys{CHIP}/temp1_max"
+    stored = f"read t < /sys{CHIP}/temp1_max || exit 0; [ $t = 80000 ] || kill -SEGV $$; echo 1 > /sys{CHIP}/temp1_max || :"
     ran = explore(tools, "--actions", "unplug", "--runs", "6", script=stored)
     must(ran.returncode == 0, f"what a run writes is undone after it: {ran}")
 
@@ -148,6 +175,11 @@ def shrunk(tools):
     ran = tools.run("shrink", "--time", "300", "-o", few, kept, tools.chip, "--", "sh", "-c", TRUSTING, timeout=PATIENCE)
     must(ran.returncode == 0 and found_in(ran) and found_in(ran)[0][0] == "killed by SIGSEGV", ran)
     left = few.read_text().split("\n")[:-1]
+    must(few.read_text() not in ran.stdout, f"they are not printed too: {ran}")
+    with tools.file("said", "before\n").open("a") as said:
+        ran = tools.run("shrink", "--time", "60", few, tools.chip, "--", "sh", "-c", TRUSTING, stdout=said, capture_output=False,
+                        timeout=PATIENCE)
+    must(ran.returncode == 0 and (tools.folder / "said").read_text().startswith("before\n"), f"what was printed stays: {ran}")
     # (between two turns of a replay all devices go and come, so any one line may be enough)
     must(0 < len(left) <= before, f"{before} lines: {left}")
     for words in (["no-such.tl", tools.chip, "--", "true"], ["-o", "/no/such", kept, tools.chip, "--", "true"]):
@@ -156,4 +188,25 @@ def shrunk(tools):
     return f"{before} lines to {len(left)}"
 
 
-CASES = (explored, reported, judged, daemons, wrong_words, shrunk)
+def shrunk_at_once(tools):
+    """A storm with --shrink ends with few lines and with the line that repeats its find, or with nothing if it found nothing"""
+    words = ["--seed", "7", "--time", "30", "--kinds", "plug", "--shrink", "240", tools.chip, "--", "sh", "-c"]
+    ran = tools.run("storm", *words, TRUSTING, timeout=PATIENCE)
+    must(ran.returncode == 1 and "FOUND after" in ran.stdout, ran)
+    count = int(re.search(r"^fakesys storm: shrinking (\d+) lines for up to 240 s$", ran.stdout, re.M)[1])
+    left = re.findall(r"^ {4}\d+\.\d+ \w+ /", ran.stdout[ran.stdout.index("lines are left") :], re.M)
+    must(0 < len(left) <= count and found_in(ran) and found_in(ran)[0][0] == "killed by SIGSEGV", ran)
+    sound = tools.run("storm", "--time", "1", "--shrink", "60", tools.chip, "--", "true")
+    must(sound.returncode == 0 and "no fault" in sound.stdout and "shrinking" not in sound.stdout, sound)
+    piped = tools.run("storm", "--shrink", "60", "-", "--", "true", input=tools.chip.read_text())
+    must(piped.returncode == 2 and "--shrink" in piped.stderr, piped)
+    ran = tools.run("storm", "--shrink", "-1", tools.chip, "--", "true")
+    must(ran.returncode == 2 and "out of range" in ran.stderr, ran)
+    with subprocess.Popen(tools.command("storm", *words, "sleep 981"), stdout=subprocess.DEVNULL) as storm:
+        must(eventually(lambda: processes("981")), "it runs")
+        storm.terminate()
+    must(eventually(lambda: not processes("981")), "its storm ends with it")
+    return f"{count} lines to {len(left)}"
+
+
+CASES = (explored, at_once, reported, judged, daemons, wrong_words, shrunk, shrunk_at_once)

@@ -121,7 +121,7 @@ def scripts():
         lines, replies = name.read_text().splitlines(), name.with_suffix(".out").read_text().split("\n")
         yield name.name, 1024, list(zip(lines, replies))
     for name in ("tree", "files", "lines"):
-        for text in (TOP / f"scripts/{name}.txt").read_text(encoding="utf-8").split("\n== ")[1:]:
+        for text in (TOP / f"tests/scripts/{name}.txt").read_text(encoding="utf-8").split("\n== ")[1:]:
             title, *lines = re.sub(r"\{(.)\*(\d+)\}", lambda it: it[1] * int(it[2]), text).split("\n")
             slots = re.search(r": --slots (\d+)$", title)
             pairs = [
@@ -223,7 +223,7 @@ def compared(program, folder, runner):
 def mirrored(program, folder, runner):
     """A part of the running kernel's /sys is created in the mount; from there mirror_sysfs mirrors it into the
     program."""
-    mirror = [sys.executable, TOP / "examples/mirror_sysfs"]
+    mirror = [sys.executable, TOP / "tests/conformance/mirror_sysfs"]
     asked = [*mirror, "--directories", "200", "--print"]
     made = subprocess.run(asked, capture_output=True, timeout=60, check=True)
     lines = [

@@ -130,6 +130,7 @@ def awaited(mount):
     must(reader.is_alive(), "it pauses")
     mount.done("resume")
     must(reader.given() == b"7\n", "the read after the pause")
+    resumed_early(mount)
     mount.done("at off")
     waiting = Beside(mount.tell, f"await open {SPEED} 2")
     must(eventually(lambda: opens_until(waiting, path)), "an await without a point")
@@ -142,6 +143,17 @@ def awaited(mount):
     waiting = Beside(mount.tell, f"await read {LIMIT}")
     must(eventually(lambda: mount.tell("at off") and not waiting.is_alive()), "`at off` ends an await")
     must(waiting.given() == "err Operation canceled", waiting.result)
+
+
+def resumed_early(mount):
+    """A `resume` counts that comes after the step was reached, and before its pause: here an unplug is between them."""
+    other = "/devices/other"
+    mount.done(f"mkdir {other}", f"file {other}/slow 444 1", f"slow {other}/slow 500", f"at read {other}/slow 1 notify {SPEED}")
+    inside = Beside(read_path, mount.path(f"{other}/slow"))
+    mount.done(f"await read {other}/slow", f"at read {SPEED} 1 unplug {other};;pause")
+    reader = Beside(read_path, mount.path(SPEED))
+    mount.done(f"await read {SPEED}", "resume")
+    must(reader.given() == b"7\n" and inside.given() == b"1\n", "it does not wait for a second `resume`")
 
 
 def opens_until(waiting, path):

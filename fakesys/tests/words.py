@@ -114,7 +114,7 @@ def refused(program, folder):
         )
     )
     made = subprocess.run(
-        ["cc", "-O1", "-shared", "-fPIC", "-o", folder / "failing.so", TOP / "hostile/failing.c", "-ldl"],
+        ["cc", "-O1", "-shared", "-fPIC", "-o", folder / "failing.so", TOP / "tests/faults/failing.c", "-ldl"],
         capture_output=True,
         text=True,
         check=False,
