@@ -49,6 +49,9 @@ pub trait Guard {
     ghost leaves: { Self → Self.Call → Self.Hold → Self → Type 0 };
 
     /// Tries for an active reference. If the node is not live, it returns the hold as the error.
+    ///
+    /// Condition: the hold may try in this state of the guard, as `may_enter` says. Each hold that the guard
+    /// returned may.
     fn enter(&mut self, hold: Self::Hold) -> Result<Self::Call, Self::Hold>
         requires may_enter { may_enter self.old hold }
         ensures tried { MatchResult result (λ call. enters self.old hold call self.new)
@@ -62,6 +65,9 @@ pub trait Guard {
         ensures may_enter { IfErr result (λ back. may_enter self.new back) };
 
     /// Ends the call, and releases its reference.
+    ///
+    /// Condition: the call may end, as `may_leave` says: `enter` returned it, and a callback that had it gave
+    /// it back.
     fn leave(&mut self, call: Self::Call) -> Self::Hold
         requires may_leave { may_leave self.old call }
         ensures left { leaves self.old call result self.new }

@@ -4,3 +4,4 @@ mod callback_tests;
 mod driver;
 mod steps;
 mod wait_tests;
+mod watch_tests;

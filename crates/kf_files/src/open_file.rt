@@ -80,6 +80,10 @@ impl<G: Guard> OpenFile<G> {
 impl<G: Guard, P: PageHolder> OpenFile<G, P> {
     /// As [`OpenFile::open`], on a page that the caller lends, whose bytes do not matter. A refusal gives
     /// the page back too.
+    ///
+    /// Condition: the hold may try in this state of the guard.
+    ///
+    /// Refusals: those of [`OpenFile::open`].
     pub fn open_on(
         guard: &mut G,
         hold: G::Hold,

@@ -63,6 +63,8 @@ impl Name {
 
     /// A copy of bytes that are known to be a lawful name, without a look at them. It takes memory for more
     /// than 24 bytes only, and is refused if there is none.
+    ///
+    /// Condition: the bytes are a lawful name.
     pub fn of_lawful(alloc: Global, bytes: &[u8]) -> Result<Name, AllocError>
         requires lawful { IsLawfulName bytes.now }
         ensures made { IfOk result (λ name. name ≡ bytes.now) }

@@ -95,6 +95,8 @@ impl LiveTree {
     }
 
     /// As [`State::activate_in_order`].
+    ///
+    /// Condition: the order is the post-order of the key's subtree.
     pub fn activate_in_order(&mut self, key: Key, order: &[Key]) -> Result<(), Refusal>
         requires in_order { IsPostOrder self.old.tree key order.now }
         ensures accepted { IfOk result (λ _.
@@ -109,6 +111,8 @@ impl LiveTree {
 
     /// As [`State::doom_in_order`]. Only the top's name is taken away from look-ups: no path leads below it
     /// then. Each node below keeps its line until it is unlinked.
+    ///
+    /// Condition: the order is the post-order of the key's subtree.
     pub fn doom_in_order(&mut self, key: Key, order: &[Key]) -> Result<(), Refusal>
         requires in_order { IsPostOrder self.old.tree key order.now }
         ensures accepted { IfOk result (λ _.
@@ -123,6 +127,9 @@ impl LiveTree {
     }
 
     /// As [`State::create_under`].
+    ///
+    /// Conditions: nothing is wrong with the new record, as `create_fault` says, and the key's slot has no
+    /// linked node.
     pub fn create_under(
         &mut self,
         key: Key,
@@ -197,6 +204,8 @@ impl LiveTree {
     }
 
     /// As [`State::hide`].
+    ///
+    /// Condition: [`LiveTree::may_hide`] made the tree ready for this key, and nothing changed since.
     pub fn hide(&mut self, key: Key)
         requires ready { self.old.ready ≡ Some key }
         ensures accepted { IsAccepted self.old self.new (hide_cause self.old.tree key) (Hide key) }

@@ -56,6 +56,8 @@ impl LookupTable {
     }
 
     /// A reader that has seen all links: none of its look-ups goes back behind them.
+    ///
+    /// Condition: the writer is of this table.
     pub fn looker_after(&self, writer: &mut Writer) -> Looker
         requires table { writer.old.seat.table_id ≡ self.now.table.shared.table_id }
         ensures table { result.seat.table_id ≡ self.now.table.shared.table_id }
@@ -84,6 +86,8 @@ impl LookupTable {
 
     /// A reader that has seen what another has, such as the one in a receipt: none of its look-ups goes back
     /// behind that.
+    ///
+    /// Condition: the other reader is of this table.
     pub fn looker_like(&self, other: &mut Looker) -> Looker
         requires table { other.old.seat.table_id ≡ self.now.table.shared.table_id }
         ensures table { result.seat.table_id ≡ self.now.table.shared.table_id }

@@ -45,6 +45,8 @@ impl LookupTable {
 
     /// Whether the child's line says already that it stands under this name in this directory. It stores no
     /// word.
+    ///
+    /// Condition: the section is of this table.
     pub fn says(
         &self,
         section: Section,

@@ -213,6 +213,8 @@ impl LookupTable {
     ///
     /// None is no refusal: ask under the lock. A name is longer than 24 bytes, is not there or has no line;
     /// or the path has another form; or a change came during each try.
+    ///
+    /// Condition: the reader is of this table.
     pub fn look(&self, looker: &mut Looker, root: Key, path: &[u8]) -> Option<FoundAt>
         requires table { looker.old.seat.table_id ≡ self.now.table.shared.table_id }
         ensures table { looker.new.seat.table_id ≡ looker.old.seat.table_id }

@@ -127,6 +127,8 @@ impl LookupTable {
     }
 
     /// Begins a change: no look-up passes until it is published. It waits for no reader.
+    ///
+    /// Condition: the writer is of this table.
     pub fn start(&self, writer: Writer) -> Section
         requires table { writer.seat.table_id ≡ self.now.table.shared.table_id }
         ensures table { result.seat.table_id ≡ writer.seat.table_id }
@@ -228,6 +230,8 @@ impl LookupTable {
     }
 
     /// Publishes the change: look-ups pass again. After 2^63 changes they no longer do.
+    ///
+    /// Condition: the section is of this table.
     pub fn publish(&self, section: Section) -> Writer
         requires table { section.seat.table_id ≡ self.now.table.shared.table_id }
         ensures table { result.seat.table_id ≡ section.seat.table_id }

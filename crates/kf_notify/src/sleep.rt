@@ -13,8 +13,8 @@
 //! millisecond. And 2^32 raises between a look and its (2) would be taken for none.
 //!
 //! The counts are beside the table, and its rule does not see them. A clause says that a wake comes after
-//! its raise. No clause says that there is a wake, or that (4) decides: `.ci/unseen_steps` says where a
-//! count may be loaded, and `hostile/wake_model.py` tries each order of these steps.
+//! its raise. No clause says that there is a wake, or that (4) decides: `tools/unseen_steps` says where a
+//! count may be loaded, and `tests/models/wake.py` tries each order of these steps.
 ghost use Rattle.std.specs.Prelude.{◌<◌};
 ghost use Rattle.kf_notify.specs.Steps.{HasRaised};
 

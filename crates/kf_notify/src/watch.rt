@@ -11,8 +11,8 @@
 //! counted. And (2) comes before (7), so either (4) finds another number and does not sleep, or the thread
 //! is in the kernel's queue when (7) wakes all. 2^32 changes between (2) and (4) would be taken for none.
 //!
-//! No rule sees these two words: `.ci/unseen_steps` says where they may be loaded, and
-//! `hostile/wake_model.py` tries each order of these steps.
+//! No rule sees these two words: `tools/unseen_steps` says where they may be loaded, and
+//! `tests/models/wake.py` tries each order of these steps.
 
 use crate::posts::Posts;
 use std::sync::Wait;

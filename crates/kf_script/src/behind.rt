@@ -4,6 +4,8 @@ ghost use Rattle.std.specs.Prelude.{◌≡◌, ◌≤◌, ◌+◌, ◌++◌, len
 
 /// Puts the bytes behind those of the text, one by one. Inlined, if they are known, it writes a few
 /// numbers.
+///
+/// Condition: the text has room for the bytes.
 #[inline(always)]
 pub fn push_each(text: &mut Vec<u8>, bytes: &[u8])
     requires { vec_len text.old + length bytes.now ≤ vec_capacity text.old }
@@ -18,6 +20,8 @@ pub fn push_each(text: &mut Vec<u8>, bytes: &[u8])
 
 /// Puts the bytes behind those of the text. A few are taken out before they are put, each in a register: that
 /// costs less than the calls that many take.
+///
+/// Condition: the text has room for the bytes.
 #[inline(always)]
 pub fn push_all(text: &mut Vec<u8>, bytes: &[u8])
     requires { vec_len text.old + length bytes.now ≤ vec_capacity text.old }

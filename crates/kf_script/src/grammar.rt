@@ -97,6 +97,8 @@ pub(crate) fn parse_into<'a, B>(line: &'a [u8], asked: &mut Option<Request<'a>>)
 }
 
 /// What a line of at most 8,192 bytes asks for, or nothing if it matches no row of the grammar.
+///
+/// Condition: the line has at most 8,192 bytes.
 pub fn parse(line: &[u8]) -> Option<Request<'_>>
     requires { length line.now ≤ line_limit }
     ensures value { option_map request_words result ≡ request_of line.now }

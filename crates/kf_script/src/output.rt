@@ -81,6 +81,8 @@ pub struct Output<'a, W> {
 
 impl<'a, W: Write> Output<'a, W> {
     /// Takes the writer for one run, and memory for what is kept.
+    ///
+    /// Conditions: nothing is kept yet, and there is room to keep 4,096 bytes.
     pub fn new(writer: &'a mut W, kept: &'a mut Vec<u8>) -> Output<'a, W>
         requires none { kept.old.items ≡ [] }
         requires room { 4096 ≤ vec_capacity kept.old }

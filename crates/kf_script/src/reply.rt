@@ -141,6 +141,8 @@ impl Reply {
     }
 
     /// At most [`SHORT_REPLY`] bytes as they are.
+    ///
+    /// Condition: there are at most 4,096 bytes.
     pub fn set_bytes(&mut self, bytes: &[u8])
         requires { length bytes.now ≤ 4096 }
         ensures { self.new ≡ bytes.now }

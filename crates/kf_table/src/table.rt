@@ -44,6 +44,10 @@ impl Model for Table {
 
 impl Table {
     /// Only the root, and this many slots.
+    ///
+    /// Condition: the root's slot is below `slots`.
+    ///
+    /// Refusal: NoMemory.
     pub fn new(alloc: Global, slots: u32, root: Key) -> Result<Table, Refusal>
         requires in_table { root.slot < slots }
         ensures made { IfOk result (λ table. table ≡ root_alone slots root) }
@@ -151,6 +155,8 @@ impl Table {
     }
 
     /// The record with this name in this directory.
+    ///
+    /// Condition: the table is lawful, as that of each tree is.
     #[inline(always)]
     pub fn child(&self, dir: Key, name: &[u8]) -> Option<&Record>
         requires lawful { (root : Key) × Lawful self.now root }
@@ -180,6 +186,8 @@ impl Table {
 
     /// The record with this name in a linked directory, and its key. The slot is known before the record is
     /// read, mostly without a search.
+    ///
+    /// Conditions: the table is lawful, and the directory is linked.
     #[inline(always)]
     pub fn child_of(&self, dir: Key, name: &[u8]) -> Option<(Key, &Record)>
         requires lawful { (root : Key) × Lawful self.now root }
@@ -203,6 +211,8 @@ impl Table {
 
     /// The names and keys of the children above the bound, or of all if there is no bound, in byte order
     /// of names.
+    ///
+    /// Condition: the table is lawful.
     pub fn children_above(&self, dir: Key, bound: Option<&[u8]>) -> Listed<'_>
         requires lawful { (root : Key) × Lawful self.now root }
         ensures listed { AreNext self.now dir (option_copied bound.entry) result }
@@ -214,6 +224,8 @@ impl Table {
     }
 
     /// Whether a directory has a linked child.
+    ///
+    /// Condition: the table is lawful.
     pub fn has_child(&self, dir: Key) -> bool
         requires lawful { (root : Key) × Lawful self.now root }
         ensures known { result ≡ has_child self.now dir }
@@ -222,6 +234,8 @@ impl Table {
     }
 
     /// How many child directories a directory has.
+    ///
+    /// Conditions: the table is lawful, and has at most [`kf_core::MOST_SLOTS`] slots.
     pub fn subdirs(&self, dir: Key) -> u32
         requires lawful { (root : Key) × Lawful self.now root }
         requires few { length self.now ≤ most_slots }
@@ -235,6 +249,10 @@ impl Table {
     }
 
     /// Puts a new record into its slot, and its name into the index of its directory.
+    ///
+    /// Conditions: the slot has no record, and with the new one the table is lawful.
+    ///
+    /// Refusal: NoMemory. Then the table is as before.
     pub fn add(&mut self, entry: Record) -> Result<(), Refusal>
         requires vacant { slice_get self.old entry.key.slot ≡ Some None }
         requires lawful_after { (root : Key) × Lawful (slice_set self.old entry.key.slot (Some entry)) root }
@@ -249,6 +267,8 @@ impl Table {
     }
 
     /// Takes the record of a linked key out, and its name out of the index of its directory.
+    ///
+    /// Condition: the key is linked.
     pub fn take_out(&mut self, key: Key)
         requires linked { IsTrue (is_linked self.old key) }
         ensures taken { self.new ≡ slice_set self.old key.slot None }
@@ -300,6 +320,11 @@ impl Table {
     }
 
     /// Puts the record of a linked key into a directory, under a name, and its entry into the index there.
+    ///
+    /// Conditions: the key is linked, the table is lawful and stays so, and the record does not have this
+    /// place already.
+    ///
+    /// Refusal: NoMemory. Then the table is as before.
     pub fn move_to(&mut self, key: Key, dir: Key, name: NameBytes) -> Result<(), Refusal>
         requires linked { IsTrue (is_linked self.old key) }
         requires lawful { (root : Key) × Lawful self.old root }

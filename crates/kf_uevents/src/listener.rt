@@ -29,7 +29,7 @@ impl Model for Listener {
 
 // Sleeps until an event has the number. It takes the slot's number first, and then looks at the list. So an
 // event that is added after the look changes the number that it sleeps on, and no wake is lost:
-// `hostile/wake_model.py` tries every order of these steps.
+// `tests/models/wake.py` tries every order of these steps.
 fn wait_for<R: Wait>(rt: &R, log: &RwLock<UeventLog>, post: &mut Post, number: u64) {
     for _ in rt.forever() {
         let seen = post.now();

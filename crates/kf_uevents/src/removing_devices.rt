@@ -38,7 +38,7 @@ pub fn notify_listeners(posts: &mut Posts, root: Key)
 /// tree is unlocked.
 ///
 /// Context: takes the lock of the list under that of the tree; sleeps, once it has unlocked both, and locks
-/// the tree for each unlink.
+/// the tree again if a node was in use.
 pub fn remove_device<N: Naming, R: Wait>(
     editor: Editor<'_, N>,
     rt: &R,

@@ -22,6 +22,8 @@ pub struct Tags {
 
 impl Tags {
     /// All tags of the seat of this number, 0 to 16.
+    ///
+    /// Condition: the seat is one of 0 to 16.
     pub fn of_seat(seat: u64) -> Tags
         requires { seat ≤ 16 }
         ensures first { result.next ≡ first_tag seat }

@@ -40,6 +40,8 @@ pub fn tell_changed(reply: &mut Reply, told: Result<bool, Refusal>)
 }
 
 /// Writes the bytes that were read to the front of a buffer, or why there are none.
+///
+/// Conditions: the buffer has at most 4,096 bytes, and not more were read than it has.
 pub fn tell_read(reply: &mut Reply, told: Result<usize, FileError>, out: &[u8])
     requires fits { IfOk told (λ count. count ≤ length out.now) }
     requires page { length out.now ≤ 4096 }

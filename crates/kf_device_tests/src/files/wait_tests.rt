@@ -27,7 +27,7 @@ enum Change {
     Removed,
 }
 
-fn tells(posts: &mut Posts, slot: u32) -> bool {
+pub(super) fn tells(posts: &mut Posts, slot: u32) -> bool {
     slot < posts.slots() && posts.notify(slot).is_ok()
 }
 
@@ -48,7 +48,12 @@ fn hides<N: Naming, R: Wait>(rt: &R, tree: &SharedTree<N>, posts: &mut Posts, ke
     }
 }
 
-fn removes<N: Naming, R: Wait>(rt: &R, tree: &SharedTree<N>, posts: &mut Posts, key: Key) -> bool {
+pub(super) fn removes<N: Naming, R: Wait>(
+    rt: &R,
+    tree: &SharedTree<N>,
+    posts: &mut Posts,
+    key: Key,
+) -> bool {
     match remove_and_tell(tree.edit(rt), rt, posts, key) {
         Ok(receipts) => {
             let one = receipts.len() == 1;
@@ -79,7 +84,11 @@ fn changes<N: Naming, R: Wait>(
 }
 
 /// Whether the file gives one byte.
-fn reads<N: Naming, R: Wait>(rt: &R, tree: &SharedTree<N>, file: &mut WaitingFile<N>) -> bool {
+pub(super) fn reads<N: Naming, R: Wait>(
+    rt: &R,
+    tree: &SharedTree<N>,
+    file: &mut WaitingFile<N>,
+) -> bool {
     let quiet = driver_of(Plan::Shows(b"v"));
     file.read(rt, tree, &quiet, 0, &mut [0u8; 4]) == Ok(1)
 }

@@ -1,5 +1,5 @@
 //! A path of many names, longer than a line of a script. (Trees as large as they can be, made by scripts,
-//! stand in .ci/sizes.py.)
+//! stand in tests/program/sizes.py.)
 
 use super::planting::{add, new_state};
 use kf_core::{Node, Refusal};
