@@ -1,6 +1,6 @@
 #!/usr/bin/env python3
 # SPDX-License-Identifier: MIT OR Apache-2.0
-"""Compares two programs on random scripts: `fuzz.py PROGRAM PROGRAM COUNT [SEED]`.
+"""Compares two programs on random scripts:  tests/fuzz.py PROGRAM PROGRAM COUNT [SEED]
 
 Their replies must be the same bytes. PROGRAM may have arguments after it. A script with different replies is kept in a
 temporary file."""
@@ -84,7 +84,7 @@ def run(program, slots, lines):
 
 def main():
     if len(sys.argv) not in (4, 5):
-        sys.exit("fuzz.py PROGRAM PROGRAM COUNT [SEED]")
+        sys.exit("tests/fuzz.py PROGRAM PROGRAM COUNT [SEED]")
     first, second = sys.argv[1:3]
     seed = sys.argv[4] if len(sys.argv) == 5 else "0"
     knows_workers = all(run(it, 2, b"wait\n")[1] == b"ok\n" for it in (first, second))

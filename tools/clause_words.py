@@ -27,7 +27,7 @@ def program(path):
     return module
 
 
-DEFINITIONS = program(TOP / "docs/definitions")
+DEFINITIONS = program(TOP / "tools/definitions")
 
 
 def definition(name, uses):

@@ -1,6 +1,6 @@
 #!/usr/bin/env python3
 # SPDX-License-Identifier: MIT OR Apache-2.0
-"""What docs/LIBRARY.md names: the crates of its table, and calls, which must be there in the crates' sources.
+"""Looks whether the crates and calls that docs/LIBRARY.md names are there.
 
     tools/library_page.py             prints each name there that no library crate exports, and ends with 1 if there is one
     tools/library_page.py --crates    prints the crates that the table "You want | Crates" names
@@ -19,7 +19,8 @@ PAGE = "docs/LIBRARY.md"
 sys.path.insert(0, str(TOP / "tools"))
 import crate_items  # noqa: E402  (beside this program)
 
-VARIABLES = {"tree": "SharedTree", "file": "WaitingFile"}  # of these types; others, as `editor`, are of the type of their name
+# Variables of these types. Others, as `editor`, are of the type of their name.
+VARIABLES = {"tree": "SharedTree", "file": "WaitingFile", "caller": "ValueCaller", "hot_caller": "HotCaller"}
 # What Rust or the kit gives: types, then calls.
 TYPES = {"Brand", "RwLock", "Option", "Result", "Vec", "Global"}
 CALLS = {"Ok", "Err", "Some", "read", "write", "push", "join", "for_each_mut"}
@@ -154,6 +155,9 @@ def wrong_names():
 
 
 def main(asked):
+    if {"-h", "--help"} & set(asked):
+        print(__doc__)
+        return 0
     if asked == ["--crates"]:
         print("\n".join(crates()))
         return 0

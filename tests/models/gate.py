@@ -1,9 +1,11 @@
 #!/usr/bin/env python3
 # SPDX-License-Identifier: MIT OR Apache-2.0
-"""Tries a gate of two lanes in every order of its steps: nobody is inside once its keeper saw both lanes empty, and a keeper that
-sleeps is woken:  hostile/gate_model.py
+"""Tries a gate of two lanes in every order of its steps.
 
-The laws of kf_gates say the first of these over every run, and no clause speaks of wakes. The steps are those of
+    tests/models/gate.py
+
+Nobody is inside once its keeper saw both lanes empty, and a keeper that sleeps is woken. The laws of kf_gates say the first of
+these over every run, and no clause speaks of wakes. The steps are those of
 crates/kf_gates/src/board.rt. A caller adds one to its lane and loads the gate's word; then it is inside, or it takes the one off
 again. If a caller takes one off and finds that it was the last, it loads the count of sleepers, and wakes all that sleep on the
 lane if that is not 0. A caller that is inside may break its protection, which takes its one off, and restore it, which adds it

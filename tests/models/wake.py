@@ -1,7 +1,8 @@
 #!/usr/bin/env python3
 # SPDX-License-Identifier: MIT OR Apache-2.0
-"""Tries the waking of sleepers at an active word, and of sleepers at an event number, in every order of their steps:
-  hostile/wake_model.py
+"""Tries the waking of sleepers at an active word and at an event number, in every order of their steps.
+
+    tests/models/wake.py
 
 Clauses name the steps of a sleeper and of the thread that wakes it, in their order. No clause sees the kernel's queue,
 so this searches all states of a few threads at one word. It is the algorithm of crates/kf_words/src/seat/sleep.rt, step
@@ -321,7 +322,7 @@ NUMBERS = ({name: (Number(1, False, False, 0, 0), tuple(case)) for name, case in
 
 
 def try_all(*models):
-    """Tries each case of each model, where nobody may be stuck, and each variant, where somebody must be."""
+    """Tries each case of each model, in which nobody may be stuck, and each variant, in which somebody must be."""
     passed = failed = 0
     for cases, variants, next_of, stuck_in in models:
         for name, start in cases.items():

@@ -1,18 +1,19 @@
 #!/usr/bin/env python3
 # SPDX-License-Identifier: MIT OR Apache-2.0
-"""Tries a wait for the first of several slots, in every order of its steps and of those of the notifies:
-  hostile/watch_model.py
+"""Tries a wait for the first of several slots, in every order of its steps and of the notifies'.
+
+    tests/models/watch.py
 
 It is the algorithm of crates/kf_notify/src/watch.rt, step by step. A thread that watches counts itself, and then, again and
 again, takes the number of changes, looks at each slot, and sleeps on that number. A notify raises the number of its slot
 and loads the count. If it is not zero, the notify raises the number of changes, and wakes all.
 
-A state is stuck as in wake_model.py: a thread sleeps, though a slot has changed that it has not found. There must be none,
+A state is stuck as in wake.py: a thread sleeps, though a slot has changed that it has not found. There must be none,
 except in each of the VARIANTS. The last line is 'N passed, M failed'."""
 
 from collections import namedtuple
 
-from wake_model import Thread, try_all
+from wake import Thread, try_all
 
 # Of two slots their numbers; how many threads watch; and how often a notify found one that watches.
 Several = namedtuple("Several", "numbers watching changes")

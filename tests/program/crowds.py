@@ -13,7 +13,7 @@ DIR, FILE = b"dir subdirs=0 nlink=2 ", b"file mode=666 "
 
 
 class Worker:
-    """What is known of a worker: the rounds in which it opened its open shared files; the text of its own file, whether that
+    """What is known of a worker: the rounds in which it opened its open shared files; the text of its file, whether that
     is hidden and whether it is in the worker's directory; whether its link exists."""
 
     def __init__(self):
