@@ -4,6 +4,7 @@
 ghost use Rattle.std.specs.Prelude.{◌≡◌, IfOk};
 
 use crate::clock::now;
+use crate::gates::Gate;
 use kf_core::{Key, Node, Refusal};
 use kf_shared::{Editor, Naming, SharedTree};
 use kf_words::{Hold, Holds};
@@ -37,14 +38,15 @@ pub(crate) struct Plain {
     pub(crate) lock: RwLock<u64>,
 }
 
-/// The tree, a line of words and of locks for each slot, an object that threads share by counting, how many
-/// threads have come to a round and have not ended it, whether the thread that changes the tree has ended,
-/// and the moment from which times are counted.
+/// The tree, a line of words and of locks for each slot, a gate, an object that threads share by counting,
+/// how many threads have come to a round and have not ended it, whether the thread that changes the tree has
+/// ended, and the moment from which times are counted.
 #[derive(Drop)]
 pub(crate) struct Bench<N: Naming> {
     pub(crate) alloc: Global,
     pub(crate) tree: SharedTree<N>,
     pub(crate) plain: Vec<Plain>,
+    pub(crate) gate: Gate,
     pub(crate) counted: Arc<AtomicU64>,
     pub(crate) come: AtomicU64,
     pub(crate) busy: AtomicU64,
@@ -98,6 +100,7 @@ impl<N: Naming> Bench<N> {
             alloc,
             tree,
             plain,
+            gate: Gate::new(alloc)?,
             counted: Arc::new(alloc, AtomicU64::new(0))?,
             come: AtomicU64::new(0),
             busy: AtomicU64::new(0),

@@ -16,17 +16,20 @@ ghost use Rattle.std.specs.Prelude.{◌≡◌, ◌≤◌};
 
 mod clock;
 mod files;
+mod gates;
 mod growing;
 mod grown;
 mod hist;
 mod tables;
 mod tails;
+mod tasks;
 mod turns;
 mod waiters;
 
 use anyhow::Context;
-use grown::{Bench, SLOTS};
+use grown::{Bench, LEAF, SLOTS, hold_of};
 use kf_core::Limits;
+use kf_hot::close_gate;
 use kf_shared::{Naming, NewTree, SharedTree};
 use std::alloc::Global;
 use std::env::{self, Env};
@@ -97,7 +100,12 @@ fn run<N: Naming + Send + Sync, R: Threads + Wait + Clock + Print + Sync>(
         Part::Words => print_all(rt, &bench, &WORDS, false),
         Part::Tree => print_all(rt, &bench, &TREE, false),
         Part::Files => print_all(rt, &bench, &FILES, false),
-        Part::Hot { as_objects } => print_all(rt, &bench, &HOT, as_objects),
+        Part::Hot { as_objects } => {
+            let keeper = bench.gate.open(rt, hold_of(rt, &bench.tree, LEAF)?)?;
+            let printed = print_all(rt, &bench, &HOT, as_objects);
+            close_gate(rt, keeper).1.release();
+            printed
+        }
         Part::Tails => print_tails(rt, &bench),
         Part::Wait => Ok(waiters::wait(rt, &bench)?),
     }

@@ -118,8 +118,8 @@ pub(crate) const FILES: [Table; 3] = [
 /// What all threads do at one node, and at one file.
 pub(crate) const HOT: [Table; 2] = [
     Table {
-        head: "ns a turn at one node                words   additions      RwLock         Arc",
-        columns: &[Turn::Enter, Turn::Add, Turn::Lock, Turn::Clone],
+        head: "ns a turn at one node                words        gate   additions      RwLock         Arc",
+        columns: &[Turn::Enter, Turn::Gate, Turn::Add, Turn::Lock, Turn::Clone],
         turns: 1_000_000,
         beside_changes: false,
         crowds: &ONE_NODE,

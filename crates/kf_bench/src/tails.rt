@@ -1,85 +1,19 @@
 //! How long single calls take, undisturbed and beside a thread that changes the tree: the median, and the
 //! slowest of 100, of 1,000 and of all.
 
-use crate::clock::{now, since};
-use crate::files::{keep, visit_once};
-use crate::growing::grow_and_remove;
-use crate::grown::{ASIDE, Bench, hold_of, key_in, path_of};
+use crate::grown::Bench;
 use crate::hist::Histogram;
-use kf_core::{Node, Refusal};
-use kf_shared::{Naming, PathHolder, release_all};
-use kf_words::Hold;
+use crate::tasks::{Task, Worker, work};
+use kf_core::Refusal;
+use kf_shared::Naming;
 use std::alloc::Global;
 use std::sync::Wait;
-use std::sync::atomic::{AtomicU64, Ordering};
-use std::thread::{self, Threads, for_each_mut};
-use std::time::{Clock, Duration, Instant};
+use std::sync::atomic::Ordering;
+use std::thread::{Threads, for_each_mut};
+use std::time::Clock;
 
 /// More slots than the 100,000 nodes that come and go, and those that stay.
 pub(crate) const TAIL_SLOTS: u32 = 120_000;
-
-/// The slot of the file that is looked up and opened.
-const FILE: u32 = 65;
-
-/// The slot of the directory in which a file comes and goes, and that file's path.
-const BUSY_DIR: u32 = 4;
-
-const BUSY_PATH: &[u8] = b"/adapter/busy";
-
-const BUSY_FILE: Node = Node::File {
-    mode: 0o666,
-    tag: 0,
-};
-
-/// What one thread does.
-#[derive(Clone, Copy, PartialEq, Eq)]
-pub(crate) enum Task {
-    /// Looks up a path without the lock, and under it if that fails.
-    Look,
-    /// Opens a file by its path, reads and closes it.
-    Open,
-    /// Enters and leaves the file that comes and goes, for as long as it is there.
-    Use,
-    /// Renames a directory that is on no measured path.
-    Rename,
-    /// Creates a file and removes it, which nobody uses.
-    Edit,
-    /// Creates a file, and a little later removes it: the removal is measured.
-    Remove,
-    /// Makes 100,000 nodes under one lock, and removes them: the removal is measured.
-    Grow,
-}
-
-impl Task {
-    fn name(self) -> &'static str {
-        match self {
-            Task::Look => "look-up",
-            Task::Open => "open, read, close",
-            Task::Use => "use",
-            Task::Rename => "rename",
-            Task::Edit => "create and remove",
-            Task::Remove => "removal",
-            Task::Grow => "removal of 100,000 nodes",
-        }
-    }
-
-    /// How often it is done, unless a thread that changes the tree ends before.
-    fn turns(self) -> u32 {
-        match self {
-            Task::Look | Task::Open | Task::Use => 2_000_000,
-            Task::Rename | Task::Edit => 50_000,
-            Task::Remove => 1_000,
-            Task::Grow => 1,
-        }
-    }
-
-    fn changes_the_tree(self) -> bool {
-        match self {
-            Task::Look | Task::Open | Task::Use => false,
-            _ => true,
-        }
-    }
-}
 
 /// Threads that work at once, and how often: of several rounds the best one is reported, by the slowest call
 /// of the first thread.
@@ -89,7 +23,7 @@ struct Scene {
     tasks: &'static [Task],
 }
 
-const SCENES: [Scene; 11] = [
+const SCENES: [Scene; 13] = [
     Scene {
         what: "alone",
         rounds: 3,
@@ -145,203 +79,17 @@ const SCENES: [Scene; 11] = [
         rounds: 3,
         tasks: &[Task::Remove, Task::Use, Task::Use, Task::Use],
     },
+    Scene {
+        what: "nobody is inside",
+        rounds: 3,
+        tasks: &[Task::RemoveHot],
+    },
+    Scene {
+        what: "3 threads are inside",
+        rounds: 3,
+        tasks: &[Task::RemoveHot, Task::UseHot, Task::UseHot, Task::UseHot],
+    },
 ];
-
-/// A thread, how long each of its calls took, how many of these took the lock, and how it ended.
-#[derive(Drop)]
-pub(crate) struct Worker {
-    task: Task,
-    times: Histogram,
-    locked: u64,
-    result: Result<(), Refusal>,
-}
-
-impl Worker {
-    fn new(alloc: Global, task: Task) -> Result<Worker, Refusal> {
-        Ok(Worker {
-            task,
-            times: Histogram::new(alloc)?,
-            locked: 0,
-            result: Ok(()),
-        })
-    }
-
-    /// Counts a call that began then and ends now.
-    fn count<R: Clock>(&mut self, rt: &R, begun: Instant) -> Result<(), Refusal> {
-        let took = since(rt, begun)?;
-        self.times.add(took.min(1_000_000_000_000) as u64);
-        Ok(())
-    }
-}
-
-fn is_over<N: Naming>(bench: &Bench<N>) -> bool {
-    bench.over.load(Ordering::SeqCst) != 0
-}
-
-fn look<N: Naming, R: Wait + Clock>(
-    rt: &R,
-    bench: &Bench<N>,
-    worker: &mut Worker,
-) -> Result<(), Refusal> {
-    let mut looker = bench.tree.edit(rt).looker()?;
-    let path = path_of(FILE);
-    for _ in 0..worker.task.turns() {
-        if is_over(bench) {
-            break;
-        }
-        let begun = now(rt)?;
-        if looker.look(path).is_none() {
-            bench.tree.read(rt).state().lookup(path)?;
-            worker.locked = worker.locked.saturating_add(1);
-        }
-        worker.count(rt, begun)?;
-    }
-    Ok(())
-}
-
-fn open_by<N: Naming, R: Wait + Clock>(
-    rt: &R,
-    bench: &Bench<N>,
-    holder: &mut PathHolder<N>,
-    worker: &mut Worker,
-) -> Result<(), Refusal> {
-    let mut kept = keep(bench.alloc, FILE)?;
-    for _ in 0..worker.task.turns() {
-        if is_over(bench) {
-            break;
-        }
-        let begun = now(rt)?;
-        let (next, locked) = visit_once(rt, &bench.tree, holder, false, FILE, kept)?;
-        kept = next;
-        worker.locked = worker.locked.saturating_add(locked as u64);
-        worker.count(rt, begun)?;
-    }
-    Ok(())
-}
-
-fn open<N: Naming, R: Wait + Clock>(
-    rt: &R,
-    bench: &Bench<N>,
-    worker: &mut Worker,
-) -> Result<(), Refusal> {
-    let mut holder = PathHolder::new(bench.alloc, &mut bench.tree.edit(rt))?;
-    let result = open_by(rt, bench, &mut holder, worker);
-    holder.end().release();
-    result
-}
-
-/// Enters and leaves until that is refused.
-fn use_up(mut hold: Hold) {
-    for _ in 0..u32::MAX {
-        match hold.enter() {
-            Ok(call) => hold = call.leave(),
-            Err(refused) => {
-                hold = refused;
-                break;
-            }
-        }
-    }
-    hold.release();
-}
-
-fn use_each<N: Naming, R: Wait + Clock>(
-    rt: &R,
-    bench: &Bench<N>,
-    worker: &Worker,
-) -> Result<(), Refusal> {
-    let mut holder = PathHolder::new(bench.alloc, &mut bench.tree.edit(rt))?;
-    for _ in 0..worker.task.turns() {
-        if is_over(bench) {
-            break;
-        }
-        match holder.try_hold(BUSY_PATH) {
-            Some(hold) => use_up(hold),
-            None => thread::sleep(rt, Duration::from_micros(20)),
-        }
-    }
-    holder.end().release();
-    Ok(())
-}
-
-fn rename<N: Naming, R: Wait + Clock>(
-    rt: &R,
-    bench: &Bench<N>,
-    worker: &mut Worker,
-) -> Result<(), Refusal> {
-    for _ in 0..worker.task.turns() {
-        for name in [b"elsewhere".as_slice(), b"virtual".as_slice()] {
-            let begun = now(rt)?;
-            let mut editor = bench.tree.edit(rt);
-            let root = editor.state().root();
-            editor.rename(key_in(ASIDE), root, name)?;
-            drop(editor);
-            worker.count(rt, begun)?;
-        }
-    }
-    Ok(())
-}
-
-fn edit<N: Naming, R: Wait + Clock>(
-    rt: &R,
-    bench: &Bench<N>,
-    worker: &mut Worker,
-) -> Result<(), Refusal> {
-    for _ in 0..worker.task.turns() {
-        let begun = now(rt)?;
-        let key = bench
-            .tree
-            .edit(rt)
-            .create(key_in(BUSY_DIR), b"busy", BUSY_FILE, true)?;
-        release_all(bench.tree.edit(rt).remove_key(rt, key)?);
-        worker.count(rt, begun)?;
-    }
-    Ok(())
-}
-
-fn remove<N: Naming, R: Wait + Clock>(
-    rt: &R,
-    bench: &Bench<N>,
-    worker: &mut Worker,
-) -> Result<(), Refusal> {
-    for _ in 0..worker.task.turns() {
-        let key = bench
-            .tree
-            .edit(rt)
-            .create(key_in(BUSY_DIR), b"busy", BUSY_FILE, true)?;
-        thread::sleep(rt, Duration::from_micros(300));
-        let begun = now(rt)?;
-        release_all(bench.tree.edit(rt).remove_key(rt, key)?);
-        worker.count(rt, begun)?;
-    }
-    Ok(())
-}
-
-fn grow<N: Naming, R: Wait + Clock>(
-    rt: &R,
-    bench: &Bench<N>,
-    worker: &mut Worker,
-) -> Result<(), Refusal> {
-    for _ in 0..worker.task.turns() {
-        let begun = grow_and_remove(rt, bench.alloc, &bench.tree, key_in(BUSY_DIR), 10_000)?;
-        worker.count(rt, begun)?;
-    }
-    bench.tree.edit(rt).compact()
-}
-
-fn work<N: Naming, R: Wait + Clock>(rt: &R, bench: &Bench<N>, worker: &mut Worker) {
-    worker.result = match worker.task {
-        Task::Look => look(rt, bench, worker),
-        Task::Open => open(rt, bench, worker),
-        Task::Use => use_each(rt, bench, worker),
-        Task::Rename => rename(rt, bench, worker),
-        Task::Edit => edit(rt, bench, worker),
-        Task::Remove => remove(rt, bench, worker),
-        Task::Grow => grow(rt, bench, worker),
-    };
-    if worker.task.changes_the_tree() {
-        bench.over.store(1, Ordering::SeqCst);
-    }
-}
 
 impl Scene {
     /// Makes one round.
@@ -429,7 +177,7 @@ pub(crate) fn print_tails<N: Naming + Send + Sync, R: Threads + Wait + Clock + P
         let workers = scene.best(rt, bench)?;
         let mut last = Task::Use;
         for task in scene.tasks {
-            if *task != Task::Use && *task != last {
+            if !task.is_aside() && *task != last {
                 print_task(rt, bench.alloc, scene.what, workers.as_slice(), *task)?;
             }
             last = *task;

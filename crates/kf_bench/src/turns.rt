@@ -1,6 +1,7 @@
 //! What a thread does again and again in a round: each of these is a column of a table, or runs beside one.
 
 use crate::files::{read, visit};
+use crate::gates::pass_through;
 use crate::grown::{ASIDE, Bench, LINE, hold_of, key_in, maker, path_of};
 use crate::waiters::{remove, wait_in};
 use kf_core::Refusal;
@@ -16,6 +17,8 @@ use std::time::{Clock, Duration};
 pub(crate) enum Turn {
     /// Enters and leaves by a hold of its slot's node.
     Enter,
+    /// Goes in and out through the gate of a hot node.
+    Gate,
     /// Counts one user more and one less in the first word of its slot's line.
     Add,
     /// Locks the first lock of its slot's line for reading and unlocks it.
@@ -49,6 +52,7 @@ impl Turn {
     pub(crate) fn name(self) -> &'static str {
         match self {
             Turn::Enter => "enter and leave",
+            Turn::Gate => "gate",
             Turn::Add => "two additions",
             Turn::Lock => "RwLock",
             Turn::Clone => "Arc",
@@ -197,6 +201,7 @@ pub(crate) fn make<N: Naming, R: Wait + Clock>(
 ) -> Result<(), Refusal> {
     match turn {
         Turn::Enter => enter(rt, &bench.tree, slot, turns),
+        Turn::Gate => pass_through(rt, bench, turns),
         Turn::Add => add(bench, slot, turns),
         Turn::Lock => lock(rt, bench, slot, turns),
         Turn::Clone => clone(bench, turns),
