@@ -68,7 +68,7 @@ pub fn tell_hidden(posts: &mut Posts, hiding: &Hiding)
 /// Removes the node of a key with all below it, as [`Editor::remove_key`] does, and wakes the threads that
 /// wait for a change of a file there: once all are marked, and before the tree is unlocked. The receipts are
 /// in post-order, the node's own last. That has seen that the doom, and the unlinks of the first of the nodes
-/// in their order, are all that came before the next border.
+/// in their order, are all that came before the lock was released.
 ///
 /// Refusals: those of [`Editor::begin_removal_of`]. After a refusal nothing is marked, and the tree is
 /// unlocked.
@@ -98,7 +98,7 @@ pub fn remove_and_tell<N: Naming, R: Wait>(
 
 /// Hides a file, as [`Editor::hide_and_wait`] does, and wakes the threads that wait for it to change: once it
 /// is hidden and the tree is unlocked, and before it waits for its callers. The token has seen that the
-/// hiding is all that came before the next border.
+/// hiding is all that came before the lock was released.
 ///
 /// Condition: the hold is of this table.
 ///

@@ -75,13 +75,13 @@ pub record WasPublished (node : Node) (path : List ℕ) (key : Key) (by : Handle
   pub known : history_of by.seen ≡ found ++ stands node root key name ∷ []
 
 -- this was the history. The doom of the receipt's node came next, and unlinks, and no other note before the
--- next border, and that the receipt has seen
+-- lock was released, and that the receipt has seen
 abbrev pub WasRemovedAfter : List Note → Handle → Type 0
 WasRemovedAfter found receipt = (keys : List Key) × SawItsRemoval found receipt.key keys receipt
 
 -- the receipt is of the live node that the path named when the lock was taken, and which was such a one. It
 -- saw that nobody was inside, and that the node has left the tree; its doom, and unlinks, are all that came
--- before the next border
+-- before it was released
 pub record WasTaken (Such : Tree → Key → Type 0) (path : List ℕ) (receipt : Handle) : Type 0 where
   pub found : List Note
   pub root : Key

@@ -7,7 +7,7 @@ use Rattle.kf_core.specs.declared.command.Command.TheVariants.{Doom, Hide}
 use Rattle.kf_core.specs.declared.key.Key.{Key}
 use Rattle.kf_core.specs.Tree.{is_linked}
 use Rattle.kf_words.specs.declared.note.Note.{Note}
-use Rattle.kf_words.specs.declared.note.Note.TheVariants.{Did, Claimed, Border}
+use Rattle.kf_words.specs.declared.note.Note.TheVariants.{Did, Claimed, LockReleased}
 use Rattle.kf_words.specs.Callers.{TableId, Handle}
 use Rattle.kf_words.specs.Notes.{history_of}
 use Rattle.kf_shared.specs.Hiding.{hold_cause}
@@ -24,7 +24,7 @@ pub late_added : (old new : Locked) (before mid closed after : Handle) (added : 
     → WasAddedLate before.seen after.seen (history old) added
 late_added old new before mid closed after added first notes shut more = record {
   came = subst (IsPrefix (history_of before.seen)) notes (prefix_trans (history_of before.seen) (history_of mid.seen) (history new) (more_told before.seen mid.seen first) shut.came);
-  next = subst (λ n. IsPrefix n (history_of after.seen)) (shut.seen ∙ ap (λ n. n ++ Border ∷ []) (append-nil (history new) ∙ notes)) (more_told closed.seen after.seen more);
+  next = subst (λ n. IsPrefix n (history_of after.seen)) (shut.seen ∙ ap (λ n. n ++ LockReleased ∷ []) (append-nil (history new) ∙ notes)) (more_told closed.seen after.seen more);
 }
 
 none_before : (notes rest : List Note) → notes ≡ [] → rest ≡ notes ++ rest
@@ -60,7 +60,7 @@ module _ (table : TableId) (old : Locked) (whole : IsWhole table old) (taken : I
   finished_in (Err e) before after h = tt
 
   -- so is a showing
-  pub shown_alone : (before after : Handle) → IsPrefix (history_of before.seen) (history old) → history_of after.seen ≡ (history old ++ show_note old.state.tree before.key) ++ Border ∷ [] → WasShownAlone before after
+  pub shown_alone : (before after : Handle) → IsPrefix (history_of before.seen) (history old) → history_of after.seen ≡ (history old ++ show_note old.state.tree before.key) ++ LockReleased ∷ [] → WasShownAlone before after
   shown_alone before after came seen = (
     history old,
     record {

@@ -5,7 +5,7 @@ use Rattle.std.specs.Option.{option_to_list}
 use Rattle.std.proofs.lemmas.List.{append-nil, append_assoc}
 use mathlib.Core.List.{IsPrefix}
 use Rattle.kf_words.specs.declared.note.Note.{Note}
-use Rattle.kf_words.specs.declared.note.Note.TheVariants.{Border}
+use Rattle.kf_words.specs.declared.note.Note.TheVariants.{LockReleased}
 use Rattle.kf_words.specs.Callers.{Handle, IsSameSeat, TableId, seat_view}
 use Rattle.kf_words.specs.Notes.{history_of}
 use Rattle.kf_shared.specs.Receipts.{AreOf, owner, owners_of}
@@ -175,8 +175,8 @@ module _ (all before receipts left receipts' left' : List Handle) (found : List 
       ∙ sym (owners_more w.turn.done w.turn.rest) ∙ sym (ap owners_of w.turn.split))
       ∙ f.owners
 
-  ended : (holds : List Handle) → turn_end (turn_of holds) ≡ w.after ++ Border ∷ []
-  ended holds = ap (λ n. n ++ Border ∷ []) (sym w.turn.unlinks)
+  ended : (holds : List Handle) → turn_end (turn_of holds) ≡ w.after ++ LockReleased ∷ []
+  ended holds = ap (λ n. n ++ LockReleased ∷ []) (sym w.turn.unlinks)
 
   -- no node left the tree
   refused : left ≡ w.turn.rest → w.turn.made ≡ [] → IsFinishing all before receipts' left'

@@ -32,7 +32,7 @@ waits_first drained = record {
   later = prefix_self drained.seen.steps;
 }
 
--- it waits, and has learned what was done up to a border
+-- it waits, and has learned what was done until the lock was released
 module _ (hold a b : Handle) (w : IsWaiting hold a) (heard : HasHeard a b) (more : SawMore a.seen b.seen) where
   told : WasTold (seat_view a) (seat_view b)
   told = heard_told a b heard more

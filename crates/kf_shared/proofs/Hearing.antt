@@ -4,7 +4,7 @@ use Rattle.std.proofs.lemmas.List.{append-nil}
 use mathlib.Core.List.{IsPrefix}
 use Rattle.kf_tree.specs.TreeLogs.{TreeLog}
 use Rattle.kf_words.specs.declared.note.Note.{Note}
-use Rattle.kf_words.specs.declared.note.Note.TheVariants.{Border}
+use Rattle.kf_words.specs.declared.note.Note.TheVariants.{LockTaken, LockReleased}
 use Rattle.kf_words.specs.declared.sight.Seen.{Seen}
 use Rattle.kf_words.specs.declared.sight.StepKind.{StepKind}
 use Rattle.kf_words.specs.Callers.{TableId, Handle, CallerSight, having_seen, seat_view}
@@ -17,7 +17,7 @@ use Rattle.kf_shared.specs.Locked.{Locked, history}
 use Rattle.kf_shared.specs.Noted.{IsNoted, WasNoted}
 use Rattle.kf_shared.specs.Removal.{HasHeard}
 use Rattle.kf_shared.specs.Sections.{SawMore, WasTold, WasClosed}
-use Rattle.kf_shared.proofs.Notes.{noted_border}
+use Rattle.kf_shared.proofs.Notes.{IsBare, bare_released, bare_taken, noted_bare}
 use Rattle.kf_shared.proofs.Told.{Held, tied_words}
 
 pub prefix_self : {A : Type 0} (xs : List A) → IsPrefix xs xs
@@ -70,15 +70,23 @@ woken_more kind before after w =
 pub heard_told : (before after : Handle) → HasHeard before after → SawMore before.seen after.seen → WasTold (seat_view before) (seat_view after)
 heard_told before after heard more = record { view = ap (λ (h : Handle). (seat_view h).view) heard; seen = more }
 
--- the lock was taken or is unlocked, and that was noted
-pub held_border : (table : TableId) (s : TreeLog) (m m' : MasterState) (claims : List ℕ) → Held table s m claims → WasNoted Border m m' → Held table s m' claims
-held_border table s m m' claims h w =
-    (tied_words table s m m' claims h.0 w.words, subst (IsNoted s claims) (sym w.history) (noted_border s claims (history_of m.seen) h.1))
+-- the lock was taken, and that was noted
+module _ (table : TableId) (s : TreeLog) (m m' : MasterState) (claims : List ℕ) (h : Held table s m claims) where
+  held_bare : (note : Note) → IsBare note → WasNoted note m m' → Held table s m' claims
+  held_bare note bare w =
+      (tied_words table s m m' claims h.0 w.words, subst (IsNoted s claims) (sym w.history) (noted_bare note bare s claims (history_of m.seen) h.1))
+
+  pub held_taken : WasNoted LockTaken m m' → Held table s m' claims
+  held_taken w = held_bare LockTaken bare_taken w
+
+  -- and that it is about to be released
+  pub held_released : WasNoted LockReleased m m' → Held table s m' claims
+  held_released w = held_bare LockReleased bare_released w
 
 -- a handle met the Master, notes were added, and it met the Master again
 module _ (old : Locked) (added : List Note) (before between after : Handle) (m1 m2 m3 : MasterState)
     (first : between ≡ having_seen m1.seen before) (met : SawMore before.seen m1.seen) (came : IsPrefix (history_of before.seen) (history old)) (kept : history_of m1.seen ≡ history old)
-    (notes : history_of m2.seen ≡ (history_of m1.seen ++ added) ++ Border ∷ [])
+    (notes : history_of m2.seen ≡ (history_of m1.seen ++ added) ++ LockReleased ∷ [])
     (second : after ≡ having_seen m3.seen between) (again : SawMore between.seen m3.seen) (still : history_of m3.seen ≡ history_of m2.seen) where
   same_seen : after.seen ≡ m3.seen
   same_seen = ap (λ (h : Handle). h.seen) second
@@ -88,5 +96,5 @@ module _ (old : Locked) (added : List Note) (before between after : Handle) (m1 
     heard = second ∙ ap (having_seen m3.seen) first ∙ ap (λ s. having_seen s before) (sym same_seen);
     later = subst (SawMore before.seen) (sym same_seen) (prefix_trans before.seen.steps m1.seen.steps m3.seen.steps met (subst (λ (h : Handle). SawMore h.seen m3.seen) first again));
     came = came;
-    seen = ap history_of same_seen ∙ still ∙ notes ∙ ap (λ l. (l ++ added) ++ Border ∷ []) kept;
+    seen = ap history_of same_seen ∙ still ∙ notes ∙ ap (λ l. (l ++ added) ++ LockReleased ∷ []) kept;
   }

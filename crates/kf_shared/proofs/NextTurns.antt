@@ -9,7 +9,7 @@ use Rattle.kf_words.specs.declared.note.Note.{Note}
 use Rattle.kf_words.specs.Callers.{Handle, TableId}
 use Rattle.kf_words.specs.Nodes.{MasterState, KeepsNodes}
 use Rattle.kf_words.specs.Notes.{history_of}
-use Rattle.kf_words.specs.declared.note.Note.TheVariants.{Border}
+use Rattle.kf_words.specs.declared.note.Note.TheVariants.{LockReleased}
 use Rattle.kf_shared.specs.Receipts.{AreOf, owners_of}
 use Rattle.kf_shared.specs.Removal.{keys_of}
 use Rattle.kf_shared.specs.Sections.{AllCame, Each, FirstLearned, FirstSaw, Learned, Stays, WasTurn, WereUnlinked, unlinked, unlinked_each}
@@ -260,9 +260,9 @@ long_alike R [] (y ∷ ys) e = absurd e
 long_alike R (x ∷ xs) [] e = absurd e
 long_alike R (x ∷ xs) (y ∷ ys) e = (let n = long_alike R xs ys e.1 in omega (arith, n))
 
--- then a border came, and the receipts and the first of those that are left learned of that
+-- then the release of the lock was noted, and the receipts and the first of those that are left learned of that
 pub turn_shut : (found after : List Note) (holds before receipts left made receipts' left' : List Handle) (notes : List Note) (u : WereUnlinked found after holds before receipts left)
-    → Each (Learned notes) u.made made → receipts' ≡ before ++ made → FirstLearned notes left left' → notes ≡ after ++ Border ∷ [] → WasTurn found holds before receipts' left'
+    → Each (Learned notes) u.made made → receipts' ≡ before ++ made → FirstLearned notes left left' → notes ≡ after ++ LockReleased ∷ [] → WasTurn found holds before receipts' left'
 turn_shut found after holds before receipts left made receipts' left' notes u learned is first shut = record {
   after = after;
   turn = record {

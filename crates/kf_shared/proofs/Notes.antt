@@ -11,7 +11,7 @@ use Rattle.kf_tree.specs.Canonical.{IsCanonical}
 use Rattle.kf_tree.specs.TreeLogs.{TreeLog, IsAccepted, IsCompacted, IsNew}
 use Rattle.kf_tree.proofs.Opening.{length_after}
 use Rattle.kf_words.specs.declared.note.Note.{Note}
-use Rattle.kf_words.specs.declared.note.Note.TheVariants.{Did, Claimed, Compacted, Began, Border}
+use Rattle.kf_words.specs.declared.note.Note.TheVariants.{Did, Claimed, Compacted, Began, LockTaken, LockReleased}
 use Rattle.kf_shared.specs.Noted.{commands_of, tree_of, tree_in, claims_after, claims_from, claims_of, claims_in, compacts, BeginsWith, IsStoredSince, IsNoted, last_stored}
 
 commands_did : (notes : List Note) (c : Command) → commands_of (notes ++ Did c ∷ []) ≡ commands_of notes ++ c ∷ []
@@ -20,7 +20,8 @@ commands_did (Did d ∷ notes) c = ap (λ l. d ∷ l) (commands_did notes c)
 commands_did (Claimed key ∷ notes) c = commands_did notes c
 commands_did (Compacted ∷ notes) c = commands_did notes c
 commands_did (Began slots root ∷ notes) c = commands_did notes c
-commands_did (Border ∷ notes) c = commands_did notes c
+commands_did (LockTaken ∷ notes) c = commands_did notes c
+commands_did (LockReleased ∷ notes) c = commands_did notes c
 
 -- a note of no command
 module _ (note : Note) (none : commands_of (note ∷ []) ≡ []) where
@@ -30,7 +31,8 @@ module _ (note : Note) (none : commands_of (note ∷ []) ≡ []) where
   commands_else (Claimed k ∷ notes) = commands_else notes
   commands_else (Compacted ∷ notes) = commands_else notes
   commands_else (Began slots root ∷ notes) = commands_else notes
-  commands_else (Border ∷ notes) = commands_else notes
+  commands_else (LockTaken ∷ notes) = commands_else notes
+  commands_else (LockReleased ∷ notes) = commands_else notes
 
 -- a note of no compaction
 module _ (note : Note) (none : compacts (note ∷ []) ≡ false) where
@@ -40,7 +42,8 @@ module _ (note : Note) (none : compacts (note ∷ []) ≡ false) where
   compacts_else (Claimed key ∷ notes) = compacts_else notes
   compacts_else (Compacted ∷ notes) = refl
   compacts_else (Began slots root ∷ notes) = compacts_else notes
-  compacts_else (Border ∷ notes) = compacts_else notes
+  compacts_else (LockTaken ∷ notes) = compacts_else notes
+  compacts_else (LockReleased ∷ notes) = compacts_else notes
 
 claims_more : (claims : List ℕ) (notes : List Note) (note : Note) → claims_from claims (notes ++ note ∷ []) ≡ claims_after (claims_from claims notes) note
 claims_more claims [] note = refl
@@ -158,22 +161,35 @@ noted_same s s' claims notes t root tree commands = record {
     long : length s'.tree ≡ length s.tree
     long = ap length tree
 
--- the lock was taken, or is unlocked
-pub noted_border : (s : TreeLog) (claims : List ℕ) (notes : List Note) → IsNoted s claims notes → IsNoted s claims (notes ++ Border ∷ [])
-noted_border s claims notes t = record {
-  began = begins_more _ _ notes Border t.began;
-  tree = t.tree ∙ ap (replay (root_alone (length s.tree) s.root)) (sym (commands_else Border refl notes));
-  claimed = t.claimed ∙ sym (claims_more (replicate (length s.tree) 0) notes Border);
+-- a note that is of no command, no compaction and no claim
+pub record IsBare (note : Note) : Type 0 where
+  pub commands : commands_of (note ∷ []) ≡ []
+  pub compactions : compacts (note ∷ []) ≡ false
+  pub claims : (claims : List ℕ) → claims_after claims note ≡ claims
+
+-- the lock was taken, and it is about to be released
+pub bare_taken : IsBare LockTaken
+bare_taken = record { commands = refl; compactions = refl; claims = λ claims. refl }
+
+pub bare_released : IsBare LockReleased
+bare_released = record { commands = refl; compactions = refl; claims = λ claims. refl }
+
+pub noted_bare : (note : Note) (bare : IsBare note) (s : TreeLog) (claims : List ℕ) (notes : List Note) → IsNoted s claims notes → IsNoted s claims (notes ++ note ∷ [])
+noted_bare note bare s claims notes t = record {
+  began = begins_more _ _ notes note t.began;
+  tree = t.tree ∙ ap (replay (root_alone (length s.tree) s.root)) (sym (commands_else note bare.commands notes));
+  claimed = t.claimed ∙ sym (bare.claims (claims_of (length s.tree) notes)) ∙ sym (claims_more (replicate (length s.tree) 0) notes note);
   stored = ⊎_elim
-      (λ (all : (compacts notes ≡ false) × (s.commands ≡ commands_of notes)). inl (compacts_else Border refl notes ∙ all.0, all.1 ∙ sym (commands_else Border refl notes)))
+      (λ (all : (compacts notes ≡ false) × (s.commands ≡ commands_of notes)).
+      inl (compacts_else note bare.compactions notes ∙ all.0, all.1 ∙ sym (commands_else note bare.commands notes)))
       (λ (x : IsStoredSince s notes). inr (record {
         before = x.before;
-        later = x.later ++ Border ∷ [];
+        later = x.later ++ note ∷ [];
         canonical = x.canonical;
-        history = ap (λ l. l ++ Border ∷ []) x.history ∙ append_assoc x.before (Compacted ∷ x.later) (Border ∷ []);
-        last = compacts_else Border refl x.later ∙ x.last;
+        history = ap (λ l. l ++ note ∷ []) x.history ∙ append_assoc x.before (Compacted ∷ x.later) (note ∷ []);
+        last = compacts_else note bare.compactions x.later ∙ x.last;
         lists = x.lists;
-        stored = x.stored ∙ ap (λ l. x.canonical ++ l) (sym (commands_else Border refl x.later));
+        stored = x.stored ∙ ap (λ l. x.canonical ++ l) (sym (commands_else note bare.commands x.later));
       }))
       t.stored;
 }

@@ -8,7 +8,7 @@ use Rattle.kf_core.specs.declared.key.Key.{Key}
 use Rattle.kf_core.specs.PostOrder.{IsPostOrder}
 use Rattle.kf_core.specs.Tree.{is_linked}
 use Rattle.kf_words.specs.declared.note.Note.{Note}
-use Rattle.kf_words.specs.declared.note.Note.TheVariants.{Did, Border}
+use Rattle.kf_words.specs.declared.note.Note.TheVariants.{Did, LockReleased}
 use Rattle.kf_words.specs.Callers.{TableId, Handle}
 use Rattle.kf_words.specs.Nodes.{MasterState}
 use Rattle.kf_words.specs.Notes.{history_of}
@@ -26,7 +26,7 @@ use Rattle.kf_shared.proofs.Hearing.{prefix_trans, more_told}
 pub added_on : (before mid after last : Handle) (found added : List Note) → SawMore before.seen mid.seen → SawMore after.seen last.seen → WasAdded mid.seen after.seen found added → WasAdded before.seen last.seen found added
 added_on before mid after last found added first more w = record {
   came = prefix_trans (history_of before.seen) (history_of mid.seen) found (more_told before.seen mid.seen first) w.came;
-  next = prefix_trans ((found ++ added) ++ Border ∷ []) (history_of after.seen) (history_of last.seen) w.next (more_told after.seen last.seen more);
+  next = prefix_trans ((found ++ added) ++ LockReleased ∷ []) (history_of after.seen) (history_of last.seen) w.next (more_told after.seen last.seen more);
 }
 
 pub finished_on : (before mid after last : Handle) → mid.key ≡ before.key → SawMore before.seen mid.seen → SawMore after.seen last.seen → WasFinished mid after → WasFinished before last
@@ -53,7 +53,7 @@ saw_removal old new key removing ended receipts noted l e finished owners =
         e.gone,
         subst (IsPrefix e.gone) (sym (same_owner_keys receipts removing (owners ∙ e.owners))) e.first,
         subst (λ n. IsPrefix n (history_of r.1.seen))
-            (its.3 ∙ ap (λ n. n ++ Border ∷ []) (ap (λ h. h ++ unlinks_of e.gone) noted ∙ append_assoc (history old) (Did (Doom key) ∷ []) (unlinks_of e.gone)))
+            (its.3 ∙ ap (λ n. n ++ LockReleased ∷ []) (ap (λ h. h ++ unlinks_of e.gone) noted ∙ append_assoc (history old) (Did (Doom key) ∷ []) (unlinks_of e.gone)))
             (more_told its.1.seen r.1.seen r.3),
       ),
     )
@@ -69,7 +69,7 @@ doom_added old new key noted = go (is_linked old.state.tree key) noted
 -- a doom, the unlock, and the waits
 module _ (old new : Locked) (hold : Handle) (removing ended receipts : List Handle) (m : MasterState) (holds : AreHolds m hold removing) (order : DoomHolds old.state.tree hold removing) (after : CameAfter old hold)
     (noted : DoomNoted old new hold.key) (e : WasEnded new removing ended) (finished : AllEnded ended receipts) (owners : owners_of receipts ≡ owners_of ended) where
-  abbrev its : Last (λ last. history_of last.seen ≡ (history new ++ unlinks_of e.gone) ++ Border ∷ []) ended
+  abbrev its : Last (λ last. history_of last.seen ≡ (history new ++ unlinks_of e.gone) ++ LockReleased ∷ []) ended
   its = e.seen holds.0 holds.1 holds.2
 
   -- if the node is not linked the given hold is the last
@@ -97,7 +97,7 @@ module _ (old new : Locked) (hold : Handle) (removing ended receipts : List Hand
           record {
             came = came;
             next = subst (λ n. IsPrefix n (history_of l.1.seen))
-                (its.3 ∙ ap (λ n. n ++ Border ∷ []) (ap (λ h. h ++ unlinks_of e.gone) (doom_added old new hold.key noted) ∙ append_assoc (history old) (doom_note old.state.tree hold.key) (unlinks_of e.gone)))
+                (its.3 ∙ ap (λ n. n ++ LockReleased ∷ []) (ap (λ h. h ++ unlinks_of e.gone) (doom_added old new hold.key noted) ∙ append_assoc (history old) (doom_note old.state.tree hold.key) (unlinks_of e.gone)))
                 (more_told its.1.seen l.1.seen l.3);
           },
         ),

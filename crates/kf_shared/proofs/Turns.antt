@@ -5,7 +5,7 @@ use mathlib.Core.List.{IsPrefix}
 use Rattle.kf_core.specs.declared.command.Command.TheVariants.{Unlink}
 use Rattle.kf_core.specs.declared.key.Key.{Key}
 use Rattle.kf_words.specs.declared.note.Note.{Note}
-use Rattle.kf_words.specs.declared.note.Note.TheVariants.{Did, Border}
+use Rattle.kf_words.specs.declared.note.Note.TheVariants.{Did, LockReleased}
 use Rattle.kf_words.specs.declared.sight.Seen.{Seen}
 use Rattle.kf_words.specs.Callers.{TableId, Handle, having_seen}
 use Rattle.kf_words.specs.Notes.{history_of}
@@ -90,11 +90,11 @@ owners_long : (xs : List Handle) → length (owners_of xs) ≡ length xs
 owners_long [] = refl
 owners_long (x ∷ xs) = (let n = owners_long xs in omega (arith, n))
 
--- the last was met, the first were unlinked, a border was noted, and the last was met again
+-- the last was met, the first were unlinked, the release of the lock was noted, and the last was met again
 pub ended_turn : (old mid cut shut : Locked) (seen last_seen : Seen) (removing holds rest ended : List Handle) (gone : List Key) → HasMet (history old) seen removing holds → history mid ≡ history old
-    → owners_of rest ≡ owners_of holds → IsPrefix gone (keys_of holds) → history cut ≡ history mid ++ unlinks_of gone → Adds cut shut Border → HasMet (history shut) last_seen rest ended → history_of last_seen ≡ history shut
+    → owners_of rest ≡ owners_of holds → IsPrefix gone (keys_of holds) → history cut ≡ history mid ++ unlinks_of gone → Adds cut shut LockReleased → HasMet (history shut) last_seen rest ended → history_of last_seen ≡ history shut
     → WasEnded old removing ended
-ended_turn old mid cut shut seen last_seen removing holds rest ended gone first same owners prefix noted border again still = record {
+ended_turn old mid cut shut seen last_seen removing holds rest ended gone first same owners prefix noted released again still = record {
   owners = met_owners (history shut) last_seen rest ended again ∙ as_before;
   gone = gone;
   first = subst (IsPrefix gone) (same_owner_keys holds removing (met_owners (history old) seen removing holds first)) prefix;
@@ -108,7 +108,7 @@ ended_turn old mid cut shut seen last_seen removing holds rest ended gone first 
       m.0,
       having_seen last_seen m.1,
       m.3,
-      still ∙ border ∙ ap (λ l. l ++ Border ∷ []) (noted ∙ ap (λ l. l ++ unlinks_of gone) same),
+      still ∙ released ∙ ap (λ l. l ++ LockReleased ∷ []) (noted ∙ ap (λ l. l ++ unlinks_of gone) same),
     )
   ]);
 }

@@ -7,7 +7,7 @@ use Rattle.kf_core.specs.Tree.{Tree}
 use Rattle.kf_tree.specs.Canonical.{IsCanonical}
 use Rattle.kf_tree.specs.TreeLogs.{TreeLog}
 use Rattle.kf_words.specs.declared.note.Note.{Note}
-use Rattle.kf_words.specs.declared.note.Note.TheVariants.{Did, Claimed, Compacted, Began, Border}
+use Rattle.kf_words.specs.declared.note.Note.TheVariants.{Did, Claimed, Compacted, Began, LockTaken, LockReleased}
 use Rattle.kf_words.specs.Nodes.{MasterState}
 use Rattle.kf_words.specs.Notes.{history_of}
 
@@ -18,7 +18,8 @@ commands_of (Did command ∷ notes) = command ∷ commands_of notes
 commands_of (Claimed key ∷ notes) = commands_of notes
 commands_of (Compacted ∷ notes) = commands_of notes
 commands_of (Began slots root ∷ notes) = commands_of notes
-commands_of (Border ∷ notes) = commands_of notes
+commands_of (LockTaken ∷ notes) = commands_of notes
+commands_of (LockReleased ∷ notes) = commands_of notes
 
 -- the tree of this many slots that a history made of only the root
 abbrev pub tree_of : ℕ → Key → List Note → Tree
@@ -31,7 +32,8 @@ tree_in (Did command ∷ notes) = []
 tree_in (Claimed key ∷ notes) = []
 tree_in (Compacted ∷ notes) = []
 tree_in (Began slots root ∷ notes) = tree_of slots root notes
-tree_in (Border ∷ notes) = []
+tree_in (LockTaken ∷ notes) = []
+tree_in (LockReleased ∷ notes) = []
 
 -- by slot the generation that was claimed last, after one note more
 abbrev pub claims_after : List ℕ → Note → List ℕ
@@ -39,7 +41,8 @@ claims_after claims (Did command) = claims
 claims_after claims (Claimed key) = slice_set claims key.slot key.generation
 claims_after claims Compacted = claims
 claims_after claims (Began slots root) = claims
-claims_after claims Border = claims
+claims_after claims LockTaken = claims
+claims_after claims LockReleased = claims
 
 -- the same after these notes, one after the other
 abbrev pub claims_from : List ℕ → List Note → List ℕ
@@ -57,7 +60,8 @@ claims_in (Did command ∷ notes) = []
 claims_in (Claimed key ∷ notes) = []
 claims_in (Compacted ∷ notes) = []
 claims_in (Began slots root ∷ notes) = claims_of slots notes
-claims_in (Border ∷ notes) = []
+claims_in (LockTaken ∷ notes) = []
+claims_in (LockReleased ∷ notes) = []
 
 -- one of these notes is of a compaction
 abbrev pub compacts : List Note → Bool
@@ -66,7 +70,8 @@ compacts (Did command ∷ notes) = compacts notes
 compacts (Claimed key ∷ notes) = compacts notes
 compacts (Compacted ∷ notes) = true
 compacts (Began slots root ∷ notes) = compacts notes
-compacts (Border ∷ notes) = compacts notes
+compacts (LockTaken ∷ notes) = compacts notes
+compacts (LockReleased ∷ notes) = compacts notes
 
 -- the stored commands are the canonical list of the tree at the last compaction, and what came after
 pub record IsStoredSince (log : TreeLog) (notes : List Note) : Type 0 where

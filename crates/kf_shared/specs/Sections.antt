@@ -1,12 +1,12 @@
--- What was done between two borders of the history, as it says it to those that saw it. A border is noted
--- when the lock was taken, and again before it is unlocked.
+-- What was done while the lock was held once, as the history says it to those that saw it. It notes that the
+-- lock was taken (LockTaken), and that it is about to be released (LockReleased).
 use Rattle.std.specs.Prelude.{◌≡◌, ◌≤◌, ◌⊎◌, ℕ, zero, suc, Bool, true, false, not, None, ⊤, List, [], ◌∷◌, ◌++◌, length, map, All}
 use mathlib.Core.List.{IsPrefix}
 use Rattle.kf_core.specs.declared.key.Key.{Key}
 use Rattle.kf_core.specs.declared.command.Command.TheVariants.{Doom, Unlink, Hide, Show}
 use Rattle.kf_core.specs.Tree.{Tree, is_linked}
 use Rattle.kf_words.specs.declared.note.Note.{Note}
-use Rattle.kf_words.specs.declared.note.Note.TheVariants.{Did, Claimed, Border}
+use Rattle.kf_words.specs.declared.note.Note.TheVariants.{Did, Claimed, LockTaken, LockReleased}
 use Rattle.kf_words.specs.declared.sight.Seen.{Seen}
 use Rattle.kf_words.specs.declared.sight.StepKind.{StepKind}
 use Rattle.kf_words.specs.declared.sight.StepKind.TheVariants.{Looks as looks, Parts as parts}
@@ -22,7 +22,7 @@ use Rattle.kf_shared.specs.Receipts.{IsDoomList, owners_of}
 
 -- the last note is that the lock was taken
 abbrev pub IsTaken : List Note → Type 0
-IsTaken notes = (before : List Note) × (notes ≡ before ++ Border ∷ [])
+IsTaken notes = (before : List Note) × (notes ≡ before ++ LockTaken ∷ [])
 
 -- as much of the one run was seen, or more
 abbrev pub SawMore : Seen → Seen → Type 0
@@ -49,7 +49,7 @@ RestedOrLooked (suc count) before after = (between : CallerSight) × (told : Cal
     × (((counted : Bool) × Rested counted told after) ⊎ WasMade parts told after)
 
 -- all the steps of a caller that saw its node drained, while that is finished: it rests or looks, any number
--- of times, and looks for the last time after it learned what was done up to a border
+-- of times, and looks for the last time after it learned what was done until the lock was released
 abbrev pub OnlyRested : CallerSight → CallerSight → Type 0
 OnlyRested before after = (between : CallerSight) × (told : CallerSight)
     × ((count : ℕ) × RestedOrLooked count before between) × WasTold between told × WasMade parts told after
@@ -58,8 +58,8 @@ OnlyRested before after = (between : CallerSight) × (told : CallerSight)
 abbrev pub OnlyWaited : CallerSight → CallerSight → Type 0
 OnlyWaited before after = (saw : CallerSight) × WaitedForDrain before saw × OnlyRested saw after
 
--- one step hid the key, then the token learned what was done up to a border, and then it waited until nobody
--- used the node
+-- one step hid the key, then the token learned what was done until the lock was released, and then it waited
+-- until nobody used the node
 abbrev pub HidToldAndLooked : CallerSight → CallerSight → Type 0
 HidToldAndLooked before after = (hid : CallerSight) × (told : CallerSight) × WasAHide before hid
     × WasTold hid told × WaitedForHidden told after
@@ -89,13 +89,13 @@ show_note t key = note_where (hidden_in t key) (Did (Show key))
 abbrev pub self_notes : Tree → Key → List Note
 self_notes t key = doom_note t key ++ Claimed key ∷ []
 
--- before the unlock: nothing changed of a handle but what it has seen; what it had seen came before,
--- and these notes were added and no other, and that it has seen
+-- before the unlock: nothing changed of a handle but what it has seen; what it had seen came before, and
+-- these notes were added and no other before the release of the lock, and that it has seen
 pub record WasClosed (old : Locked) (added : List Note) (before after : Handle) : Type 0 where
   pub heard : HasHeard before after
   pub later : SawMore before.seen after.seen
   pub came : IsPrefix (history_of before.seen) (history old)
-  pub seen : history_of after.seen ≡ (history old ++ added) ++ Border ∷ []
+  pub seen : history_of after.seen ≡ (history old ++ added) ++ LockReleased ∷ []
 
 -- the last of these, if there is one, had seen a beginning of the history. Now it has seen this, and nothing
 -- else changed
@@ -106,12 +106,12 @@ HasMet found seen before after =
     × (after ≡ front ++ having_seen seen last ∷ []) × IsPrefix (history_of last.seen) found)
 
 -- this was the history, which begins with all that was seen before. These notes came next, and no other
--- before the next border, and that was seen
+-- before the lock was released, and that was seen
 pub record WasAdded (before after : Seen) (found added : List Note) : Type 0 where
   pub came : IsPrefix (history_of before) found
-  pub next : IsPrefix ((found ++ added) ++ Border ∷ []) (history_of after)
+  pub next : IsPrefix ((found ++ added) ++ LockReleased ∷ []) (history_of after)
 
--- this was the history when the lock was taken, and these notes are all that came before the next border
+-- this was the history when the lock was taken, and these notes are all that came before it was released
 pub record WasDone (before after : Seen) (found added : List Note) : Type 0 where
   pub taken : IsTaken found
   pub section : WasAdded before after found added
@@ -122,7 +122,7 @@ Last Such handles = (front : List Handle) × (last : Handle) × (handles ≡ fro
 
 -- before the unlock: a removal has the nodes that it had. What the last of its holds had seen came before;
 -- the first of the nodes, which nobody used, were unlinked in their order, and no other note was added before
--- the next border; and that the last has seen
+-- the release of the lock; and that the last has seen
 pub record WasEnded (old : Locked) (before after : List Handle) : Type 0 where
   pub owners : owners_of after ≡ owners_of before
   pub gone : List Key
@@ -130,10 +130,11 @@ pub record WasEnded (old : Locked) (before after : List Handle) : Type 0 where
   pub came : (front : List Handle) (last : Handle) → before ≡ front ++ last ∷ []
       → IsPrefix (history_of last.seen) (history old)
   pub seen : (front : List Handle) (last : Handle) → before ≡ front ++ last ∷ []
-      → Last (λ end. history_of end.seen ≡ (history old ++ unlinks_of gone) ++ Border ∷ []) after
+      → Last (λ end. history_of end.seen ≡ (history old ++ unlinks_of gone) ++ LockReleased ∷ []) after
 
 -- this was the history, and this its tree. The doom of the hold's node came next, and the unlinks of the
--- first of these keys in their order, and no other note before the next border, and that the receipt has seen
+-- first of these keys in their order, and no other note before the lock was released, and that the receipt
+-- has seen
 abbrev pub WasRemovedIn : List Note → Tree → Handle → List Key → Handle → Type 0
 WasRemovedIn found t hold keys receipt = (gone : List Key) × IsPrefix gone keys
     × WasAdded hold.seen receipt.seen found (doom_note t hold.key ++ unlinks_of gone)
@@ -141,16 +142,16 @@ WasRemovedIn found t hold keys receipt = (gone : List Key) × IsPrefix gone keys
 -- the same of the removal of a key's node that is linked, whose hold the removal took itself
 abbrev pub SawItsRemoval : List Note → Key → List Key → Handle → Type 0
 SawItsRemoval found key keys receipt = (gone : List Key) × IsPrefix gone keys
-    × IsPrefix ((found ++ Did (Doom key) ∷ unlinks_of gone) ++ Border ∷ []) (history_of receipt.seen)
+    × IsPrefix ((found ++ Did (Doom key) ∷ unlinks_of gone) ++ LockReleased ∷ []) (history_of receipt.seen)
 
 -- in the tree that was found when the lock was taken, these are the keys of the node's subtree; its doom, and
--- the unlinks of the first of these, are all that came before the next border, and this receipt has seen that
+-- the unlinks of the first of these, are all that came before it was released, and this receipt has seen that
 abbrev pub WasRemoved : Handle → List Key → Handle → Type 0
 WasRemoved hold keys receipt = (found : List Note) × IsTaken found
     × WasRemovedIn found (tree_in found) hold keys receipt
     × IsDoomList (tree_in found) hold.key keys
 
--- the node's unlink, if it was linked when the lock was taken, is all that came before the next border, and
+-- the node's unlink, if it was linked when the lock was taken, is all that came before it was released, and
 -- the receipt has seen that
 abbrev pub WasFinished : Handle → Handle → Type 0
 WasFinished hold receipt = (found : List Note)
@@ -204,9 +205,9 @@ abbrev pub unlinked_each : List Note → List Key → List Note
 unlinked_each notes [] = notes
 unlinked_each notes (key ∷ keys) = unlinked_each (unlinked notes key) keys
 
--- the history up to the border that ends the turn
+-- the history up to the release of the lock that ends the turn
 abbrev pub turn_end : Turn → List Note
-turn_end turn = unlinked_each turn.found turn.gone ++ Border ∷ []
+turn_end turn = unlinked_each turn.found turn.gone ++ LockReleased ∷ []
 
 -- what each of these holds had seen came before the unlink of its node. From this history on they are
 -- unlinked one after the other
@@ -223,9 +224,9 @@ FirstWaited past (hold ∷ holds) (receipt ∷ receipts) = WaitedAfter past (sea
     × Each (λ x y. OnlyLooked (seat_view x) (seat_view y)) holds receipts
 
 -- a turn of a removal that has these keys left, after this history: the unlinks of its nodes, in the order of
--- the keys, at most 64, are all that came before the next border, but that the next key may have been unlinked
--- too and have no receipt yet. Each receipt has seen that border. Nobody waited for a node but the first, and
--- for that only once the turn before was over
+-- the keys, at most 64, are all that came before the lock was released, except that the next key may have been
+-- unlinked too and have no receipt yet. Each receipt has seen that release. Nobody waited for a node but the
+-- first, and for that only once the turn before was over
 pub record IsTurn (past : List Note) (keys : List Key) (turn : Turn) : Type 0 where
   pub after : IsPrefix past turn.found
   pub taken : IsTaken turn.found
@@ -263,12 +264,13 @@ abbrev pub FirstSaw : List Note → List Handle → Type 0
 FirstSaw notes [] = ⊤
 FirstSaw notes (hold ∷ holds) = IsPrefix notes (history_of hold.seen)
 
--- the same, and then a border came; the receipts have seen that, and so has the first of those that are left
+-- the same, and then the lock was released; the receipts have seen that, and so has the first of those that
+-- are left
 pub record WasTurn (found : List Note) (holds before receipts left : List Handle) : Type 0 where
   pub after : List Note
   pub turn : WereUnlinked found after holds before receipts left
-  pub seen : All (λ receipt. IsPrefix (after ++ Border ∷ []) (history_of receipt.seen)) turn.made
-  pub next : FirstSaw (after ++ Border ∷ []) left
+  pub seen : All (λ receipt. IsPrefix (after ++ LockReleased ∷ []) (history_of receipt.seen)) turn.made
+  pub next : FirstSaw (after ++ LockReleased ∷ []) left
 
 -- the handle learned of this history, and nothing else changed of it
 abbrev pub Learned : List Note → Handle → Handle → Type 0
@@ -309,17 +311,17 @@ abbrev pub AreFinished : List Handle → List Handle → List Handle → Type 0
 AreFinished before holds receipts =
     (made : List Handle) × (receipts ≡ before ++ made) × AllFinished holds made
 
--- that the file is shown, if it was linked and hidden when the lock was taken, is all that came before the
--- next border, and the hold has seen that
+-- that the file is shown, if it was linked and hidden when the lock was taken, is all that came before it was
+-- released, and the hold has seen that
 abbrev pub WasShownAlone : Handle → Handle → Type 0
 WasShownAlone hidden hold = (found : List Note)
     × WasDone hidden.seen hold.seen found (show_note (tree_in found) hidden.key)
 
 -- this was the history. What was seen before is a beginning of that with these notes, which came next, and no
--- other before the next border, and that was seen
+-- other before the lock was released, and that was seen
 pub record WasAddedLate (before after : Seen) (found added : List Note) : Type 0 where
   pub came : IsPrefix (history_of before) (found ++ added)
-  pub next : IsPrefix ((found ++ added) ++ Border ∷ []) (history_of after)
+  pub next : IsPrefix ((found ++ added) ++ LockReleased ∷ []) (history_of after)
 
 -- the same, and it was the history when the lock was taken
 pub record WasDoneLate (before after : Seen) (found added : List Note) : Type 0 where
@@ -327,7 +329,7 @@ pub record WasDoneLate (before after : Seen) (found added : List Note) : Type 0 
   pub section : WasAddedLate before after found added
 
 -- nothing was against the hiding in the tree that was found when the lock was taken; it is all that came
--- before the next border, and the token has seen that
+-- before it was released, and the token has seen that
 abbrev pub WasHiddenAlone : Handle → Handle → Type 0
 WasHiddenAlone hold token = (found : List Note)
     × WasDoneLate hold.seen token.seen found (Did (Hide hold.key) ∷ [])
@@ -335,7 +337,7 @@ WasHiddenAlone hold token = (found : List Note)
 
 -- in the tree that was found when the lock was taken, these are the keys of the subtree; the node was the
 -- first to be claimed exactly if the claims did not have it; its doom and its claim are all that came before
--- the next border, and the call has seen that
+-- the lock was released, and the call has seen that
 pub record WasSelfRemoved (before after : Handle) (first : Bool) (keys : List Key) : Type 0 where
   pub found : List Note
   pub done : WasDoneLate before.seen after.seen found (self_notes (tree_in found) before.key)

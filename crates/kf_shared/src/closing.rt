@@ -1,10 +1,10 @@
-//! A border of the history is noted when the lock was taken, and before it is unlocked: so what stands
-//! between two borders was done while it was held once. A caller that learns of that before the unlock has
-//! seen it ever after.
+//! A note says that the lock was taken, and another that it is about to be released: so what stands between
+//! the two was done while it was held once. A caller that learns of that before the unlock has seen it ever
+//! after.
 ghost use Rattle.std.specs.Prelude.{◌≡◌, [], ◌∷◌, ◌++◌, IfOk};
 ghost use mathlib.Core.List.{IsPrefix};
 ghost use Rattle.kf_core.specs.declared.caller.Phase.TheVariants as phase_of;
-ghost use Rattle.kf_words.specs.declared.note.Note.TheVariants.{Border};
+ghost use Rattle.kf_words.specs.declared.note.Note.TheVariants.{LockTaken, LockReleased};
 ghost use Rattle.kf_words.specs.declared.sight.StepKind.TheVariants.{Shows as shows};
 ghost use Rattle.kf_words.specs.Callers.{IsSameSeat, WasShown, seat_view};
 ghost use Rattle.kf_words.specs.Notes.{history_of};
@@ -15,29 +15,39 @@ ghost use Rattle.kf_shared.specs.Sections.{SawMore, WasClosed, WasRestoredAt, We
 
 use crate::locked::Locked;
 use crate::naming::Naming;
-use crate::noting::note_border;
+use crate::noting::{note_released, note_taken};
 use kf_core::Refusal;
 use kf_words::{Call, Drained, Hidden, Hiding, Hold};
 
 impl<N: Naming> Locked<N> {
-    /// Notes that the lock was taken, or is about to be unlocked.
-    pub(crate) fn border(&mut self)
+    /// Notes that the lock was taken.
+    pub(crate) fn begin_section(&mut self)
         ensures state { self.new.state ≡ self.old.state }
         ensures words { KeepsWords self.old.master self.new.master }
         ensures claims { self.new.claims ≡ self.old.claims }
-        ensures noted { Adds self.old self.new Border }
+        ensures noted { Adds self.old self.new LockTaken }
     {
-        note_border(&mut self.master);
+        note_taken(&mut self.master);
     }
 
-    /// Passes on to the token of a file that is about to be hidden all that was done up to the border which
-    /// ends it: the tree is about to be unlocked.
+    /// Notes that the lock is about to be released.
+    pub(crate) fn end_section(&mut self)
+        ensures state { self.new.state ≡ self.old.state }
+        ensures words { KeepsWords self.old.master self.new.master }
+        ensures claims { self.new.claims ≡ self.old.claims }
+        ensures noted { Adds self.old self.new LockReleased }
+    {
+        note_released(&mut self.master);
+    }
+
+    /// Notes that the lock is about to be released, and passes on to the token of a file that is about to be
+    /// hidden all that was done until then.
     pub(crate) fn close_hiding(&mut self, hiding: &mut Hiding)
         requires table { hiding.old.table ≡ N.table }
         ensures hiding { WasClosed self.old [] hiding.old hiding.new }
     {
         self.master.meet_hiding(hiding);
-        note_border(&mut self.master);
+        note_released(&mut self.master);
         self.master.meet_hiding(hiding);
     }
 
@@ -47,12 +57,12 @@ impl<N: Naming> Locked<N> {
         ensures call { WasClosed self.old [] call.old call.new }
     {
         self.master.meet_call(call);
-        note_border(&mut self.master);
+        note_released(&mut self.master);
         self.master.meet_call(call);
     }
 
-    /// Takes a drained node out of the tree, as `unlink` does, and passes on to its receipt that this is all
-    /// that was done up to the border which ends it: the tree is about to be unlocked.
+    /// Takes a drained node out of the tree, as `unlink` does, and notes that the lock is about to be
+    /// released. It passes on to the receipt that this is all that was done.
     pub(crate) fn unlink_alone(&mut self, drained: &mut Drained) -> Result<bool, Refusal>
         requires table { drained.old.table ≡ N.table }
         ensures same { HasHeard drained.old drained.new }
@@ -62,25 +72,25 @@ impl<N: Naming> Locked<N> {
     {
         self.master.meet_drained(drained);
         let unlinked = self.unlink(drained);
-        note_border(&mut self.master);
+        note_released(&mut self.master);
         self.master.meet_drained(drained);
         unlinked
     }
 
-    /// Shows a hidden file again, as `show` does, and passes on to its hold that this is all that was done
-    /// up to the border which ends it: the tree is about to be unlocked.
+    /// Shows a hidden file again, as `show` does, and notes that the lock is about to be released. It passes
+    /// on to the hold that this is all that was done.
     pub(crate) fn show_alone(&mut self, hidden: Hidden) -> Hold
         requires table { hidden.table ≡ N.table }
         ensures hold { IsSameSeat hidden result × WasShown hidden result }
         ensures made { WereMadeTold shows 1 (seat_view hidden) (seat_view result) }
         ensures came { IsPrefix (history_of hidden.seen) (history self.old) }
         ensures seen { history_of result.seen
-            ≡ (history self.old ++ show_note self.old.state.tree hidden.key) ++ Border ∷ [] }
+            ≡ (history self.old ++ show_note self.old.state.tree hidden.key) ++ LockReleased ∷ [] }
     {
         let mut hidden = hidden;
         self.master.meet_hidden(&mut hidden);
         let mut hold = self.show(hidden);
-        note_border(&mut self.master);
+        note_released(&mut self.master);
         self.master.meet(&mut hold);
         hold
     }

@@ -164,8 +164,8 @@ impl<N: Naming> Locked<N> {
     }
 
     /// Ends what a removal does before it unlocks, which is about to come: it takes the first of the nodes
-    /// out of the tree, as long as nobody uses them, and passes on to the last hold all that was done up to
-    /// the border.
+    /// out of the tree, as long as nobody uses them, and passes on to the last hold all that was done until
+    /// the lock is released.
     fn close_removal(&mut self, removing: Removing<N>) -> Rest<N>
         ensures ended { WasEnded self.old removing result }
     {
@@ -173,7 +173,7 @@ impl<N: Naming> Locked<N> {
         let mut holds = VecDeque::from_vec(holds);
         self.meet_back(&mut holds);
         let rest = self.unlink_unused(holds, receipts);
-        self.border();
+        self.end_section();
         self.meet_last(rest)
     }
 }
@@ -222,8 +222,8 @@ impl<N: Naming> Draining<'_, N> {
 impl<'a, N: Naming> Editor<'a, N> {
     /// Unlocks as the end of a removal that was begun. Before that it takes the first of the nodes out of the
     /// tree, in their order, as long as nobody uses them, at most 64 of them, and waits for none. So the
-    /// removal of an unused node takes the lock once. The last hold has then seen all that was done up to the
-    /// next border. Each removal that says what was done since the lock was taken ends by this call.
+    /// removal of an unused node takes the lock once. The last hold has then seen all that was done until the
+    /// lock was released. Each removal that says what was done since the lock was taken ends by this call.
     pub fn end_removal(self, removing: Removing<N>) -> Draining<'a, N>
         ensures ended { WasEnded self.entry removing result }
     {

@@ -284,13 +284,12 @@ impl<'a, N: Naming> Editor<'a, N> {
         self.guard.compact()
     }
 
-    /// Unlocks, and returns the tree, on which a removal that was begun is then finished. A border ends what
-    /// was done since the lock was taken. What the lock keeps is others' from then on, so no clause speaks of
-    /// it.
+    /// Unlocks, and returns the tree, on which a removal that was begun is then finished. The last note says
+    /// that the lock is released. What the lock keeps is others' from then on, so no clause speaks of it.
     pub fn let_go(self) -> &'a SharedTree<N> {
         let mut editor = self;
         let tree = editor.tree;
-        editor.guard.border();
+        editor.guard.end_section();
         drop(editor);
         tree
     }

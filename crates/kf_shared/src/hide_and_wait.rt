@@ -20,7 +20,7 @@ use std::sync::Wait;
 impl<N: Naming> SharedTree<N> {
     /// Hides a file, and waits, while the tree is unlocked, until nobody has a reference to it: then no
     /// callback runs there, except one that broke its own protection, and none starts until the file is
-    /// shown. The hiding is all that comes between two borders of the history, and the token has seen that.
+    /// shown. The hiding is all that is done while the lock is held once, and the token has seen that.
     /// It may never return: it waits for every callback that runs on the file, its caller's own among them,
     /// and for the lock, which its caller must not have.
     ///
@@ -45,9 +45,8 @@ impl<N: Naming> SharedTree<N> {
         self.edit(rt).hide_and_wait(rt, hold)
     }
 
-    /// Shows a hidden file again, under the lock, which its caller must not have. That is all that comes
-    /// between two borders of the history, and the hold has seen that. It refuses nothing and takes no
-    /// memory.
+    /// Shows a hidden file again, under the lock, which its caller must not have. That is all that is done
+    /// while the lock is held once, and the hold has seen that. It refuses nothing and takes no memory.
     ///
     /// Condition: the token is of this tree's table.
     ///

@@ -1,5 +1,5 @@
 //! What is done under the lock, noted in the history that the words keep.
-ghost use Rattle.kf_words.specs.declared.note.Note.TheVariants.{Claimed, Compacted, Began, Border};
+ghost use Rattle.kf_words.specs.declared.note.Note.TheVariants.{Claimed, Compacted, Began, LockTaken, LockReleased};
 ghost use Rattle.std.specs.Prelude.{length};
 ghost use Rattle.kf_shared.specs.Noted.{WasNoted, last_stored};
 
@@ -36,9 +36,16 @@ pub(crate) fn note_opening(master: &mut Master, state: &LiveTree)
     master.note::<Brand, LiveTree>(state);
 }
 
-/// Notes that the lock was taken, or is about to be unlocked.
-pub(crate) fn note_border(master: &mut Master)
-    ensures { WasNoted Border master.old master.new }
+/// Notes that the lock was taken.
+pub(crate) fn note_taken(master: &mut Master)
+    ensures { WasNoted LockTaken master.old master.new }
+{
+    master.note::<Brand, bool>(&true);
+}
+
+/// Notes that the lock is about to be released.
+pub(crate) fn note_released(master: &mut Master)
+    ensures { WasNoted LockReleased master.old master.new }
 {
     master.note::<Brand, bool>(&false);
 }

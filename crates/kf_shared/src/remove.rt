@@ -20,10 +20,10 @@ use std::sync::Wait;
 impl<N: Naming> SharedTree<N> {
     /// Waits until the hold's node is drained, takes it out of the tree under the lock, waiting on while
     /// that is refused, and parts (`kernfs_drain`, then `kernfs_unlink_sibling`). The holds of one doom are
-    /// finished in their order: another order may wait for itself. The unlink is all that comes between two
-    /// borders of the history, and the receipt has seen that. It takes no memory, and may never return: it
-    /// waits, while the tree is unlocked, for every callback that runs on the node, its caller's own among
-    /// them, and for the lock, which its caller must not have.
+    /// finished in their order: another order may wait for itself. The unlink is all that is done while the
+    /// lock is held once, and the receipt has seen that. It takes no memory, and may never return: it waits,
+    /// while the tree is unlocked, for every callback that runs on the node, its caller's own among them, and
+    /// for the lock, which its caller must not have.
     ///
     /// Condition: the hold is of this tree's table.
     ///
@@ -64,8 +64,8 @@ impl<N: Naming> SharedTree<N> {
         unreachable!()
     }
 
-    /// Takes a drained node out of the tree, and does nothing else before the next border. What it did the
-    /// receipt has seen.
+    /// Takes a drained node out of the tree, and does nothing else before it unlocks. What it did the receipt
+    /// has seen.
     ///
     /// Refusals: those of `Editor::unlink`.
     fn unlink_alone<R: Wait>(&self, rt: &R, drained: &mut Drained) -> Result<bool, Refusal>
@@ -106,8 +106,8 @@ impl<N: Naming> SharedTree<N> {
     /// (`kernfs_remove`). The receipts stand in the order of the doom: each node after all that is below it,
     /// siblings in byte order of names, the given hold's last. If the node is no longer linked, the receipt
     /// is only for it. Which tree that was the history says: it had come after all that the hold had seen.
-    /// The doom, and the unlinks of the first of the nodes in their order, are all that came before the next
-    /// border, and the last receipt has seen that. It may never return: it waits, while the tree is unlocked,
+    /// The doom, and the unlinks of the first of the nodes in their order, are all that came before the lock
+    /// was released, and the last receipt has seen that. It may never return: it waits, while the tree is unlocked,
     /// for every callback that runs in the subtree, its caller's own among them, and for the lock, which its
     /// caller must not have. A callback that removes its own node calls `remove_self`.
     ///
@@ -137,11 +137,11 @@ impl<N: Naming> SharedTree<N> {
     /// takes new holds of the subtree's nodes, dooms them, claims the node, and breaks the call's
     /// protection. It waits as `remove` does; then, under the lock, it restores the call. True for the first
     /// self-removal of the node in the whole history, also if a plain removal is under way; every other
-    /// returns false, after its own waiting. Nothing else comes before the next border. The last receipt is
-    /// for the call's node, and if the node has left the tree already it is the only one. It may never
-    /// return: it waits for every other callback that runs in the subtree, and for the lock, which its caller
-    /// must not have. A callback that runs on two nodes, one above the other, waits for itself if it
-    /// removes the upper.
+    /// returns false, after its own waiting. Nothing else comes before the lock is released for the wait. The
+    /// last receipt is for the call's node, and if the node has left the tree already it is the only one. It
+    /// may never return: it waits for every other callback that runs in the subtree, and for the lock, which
+    /// its caller must not have. A callback that runs on two nodes, one above the other, waits for itself if
+    /// it removes the upper.
     ///
     /// Conditions: the call is Running, and of this tree's table. After an Ok it is Restored.
     ///

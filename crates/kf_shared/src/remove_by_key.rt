@@ -49,7 +49,7 @@ impl<N: Naming> Editor<'_, N> {
 
     /// Removes the node of a key with all below it, as `remove` does. The receipts are in post-order, the
     /// node's own last. That has seen that the doom, and the unlinks of the first of the nodes in their
-    /// order, are all that came before the next border.
+    /// order, are all that came before the lock was released.
     ///
     /// Refusals: those of `begin_removal_of`. After a refusal nothing is marked, and the tree is unlocked.
     ///

@@ -210,7 +210,7 @@ impl<N: Naming> SharedTree<N> {
             tree: self,
             guard: self.lock.write(rt),
         };
-        editor.guard.border();
+        editor.guard.begin_section();
         let _ = editor.state();
         editor
     }

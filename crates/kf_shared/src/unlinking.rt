@@ -142,7 +142,7 @@ impl<N: Naming> Locked<N> {
     {
         let from = receipts.len();
         let left = self.unlink_next(first, holds, receipts);
-        self.border();
+        self.end_section();
         let (_, made) = receipts.as_mut_slice().split_at_mut(from);
         meet_each(&mut self.master, made);
         meet_next(&mut self.master, left, holds)

@@ -3,7 +3,7 @@ use Rattle.std.proofs.Common.{true, false, [], ◌∷◌, refl, ltb-true}
 use Rattle.std.specs.Prelude.{Some, None}
 use Rattle.kf_core.specs.declared.command.Command.TheVariants.{Doom, Unlink}
 use Rattle.kf_core.specs.declared.caller.Phase.TheVariants.{Still, Running, Broken, Restored, Drained, Parted, Spent}
-use Rattle.kf_words.specs.declared.note.Note.TheVariants.{Did, Claimed, Began, Border}
+use Rattle.kf_words.specs.declared.note.Note.TheVariants.{Did, Claimed, Began, LockTaken, LockReleased}
 use Rattle.kf_words.specs.Life.{with_marks_of, caller_at, master_at, table_at}
 use Rattle.kf_words.specs.declared.sight.StepKind.TheVariants.{LoadsHold as loads_hold, StoresFresh as stores_fresh, StoresNode as stores_node, Births as births, TakesBias as takes_bias, PinsHold as pins_hold, Splits as splits, Tries as tries, MarksNode as marks_node, Looks as looks, Breaks as breaks, LooksOver as looks_over, Unlinks as unlinks, Parts as parts, Restores as restores, Leaves as leaves, Releases as releases, Notes as notes}
 use Rattle.kf_words.specs.TableSteps.{Table, WordStep, WordRun}
@@ -93,7 +93,7 @@ again = table_at 0 10737418240 (master_at 2 (Some (with_marks_of true false)) (N
 s0 : WordStep opened (notes (Began 2 root_key)) opened
 s0 = (((master_at 0 (None) (None) (None) ([]) ([]) (None)), refl), refl)
 
-s1 : WordStep opened (notes Border) opened
+s1 : WordStep opened (notes LockTaken) opened
 s1 = (((master_at 0 (None) (None) (None) ([]) ([]) (None)), refl), refl)
 
 s2 : WordStep opened (loads_hold 1) t1
@@ -141,7 +141,7 @@ s15 = ((master_at 1 (Some (with_marks_of true false)) (Some 1) (None) ([]) (reco
 s16 : WordStep t10 (tries 0) called
 s16 = ((caller_at Still 0 0 0 false), (refl, refl), record { there = refl; fits = ltb-true 0 18446744073709551616 refl; becomes = refl })
 
-s17 : WordStep called (notes Border) called
+s17 : WordStep called (notes LockTaken) called
 s17 = (((master_at 1 (Some (with_marks_of true false)) (None) (None) ([]) (record { slot = 1; word = 0 } ∷ []) (None)), refl), refl)
 
 s18 : WordStep called (notes (Did (Doom first_key))) called
@@ -153,7 +153,7 @@ s19 = (with_marks_of true false, ((master_at 1 (Some (with_marks_of true false))
 s20 : WordStep marked (notes (Claimed first_key)) marked
 s20 = (((master_at 1 (Some (with_marks_of true true)) (None) (None) ([]) (record { slot = 1; word = 0 } ∷ []) (None)), refl), refl)
 
-s21 : WordStep marked (notes Border) marked
+s21 : WordStep marked (notes LockReleased) marked
 s21 = (((master_at 1 (Some (with_marks_of true true)) (None) (None) ([]) (record { slot = 1; word = 0 } ∷ []) (None)), refl), refl)
 
 s22 : WordStep marked (looks 1) t13
@@ -165,7 +165,7 @@ s23 = ((caller_at Running 1 1 0 false), (refl, refl), record { there = refl; fit
 s24 : WordStep t14 (looks 1) drained
 s24 = ((caller_at Still 1 0 12884901889 false), (refl, refl), record { there = refl; fits = ltb-true 12884901888 18446744073709551616 refl; becomes = refl })
 
-s25 : WordStep drained (notes Border) drained
+s25 : WordStep drained (notes LockTaken) drained
 s25 = (((master_at 1 (Some (with_marks_of true true)) (None) (None) ([]) (record { slot = 1; word = 0 } ∷ []) (None)), refl), refl)
 
 s26 : WordStep drained (looks_over 1) t16
@@ -177,13 +177,13 @@ s27 = ((master_at 1 (Some (with_marks_of true true)) (None) (None) ([]) (record 
 s28 : WordStep t17 (notes (Did (Unlink first_key))) t17
 s28 = (((master_at 1 (None) (None) (None) ([]) (record { slot = 1; word = 0 } ∷ []) (None)), refl), refl)
 
-s29 : WordStep t17 (notes Border) t17
+s29 : WordStep t17 (notes LockReleased) t17
 s29 = (((master_at 1 (None) (None) (None) ([]) (record { slot = 1; word = 0 } ∷ []) (None)), refl), refl)
 
 s30 : WordStep t17 (parts 1) t18
 s30 = ((caller_at Drained 2 0 12884901888 false), (refl, refl), record { there = refl; fits = ltb-true 4294967298 18446744073709551616 refl; becomes = refl })
 
-s31 : WordStep t18 (notes Border) t18
+s31 : WordStep t18 (notes LockTaken) t18
 s31 = (((master_at 1 (None) (None) (None) ([]) (record { slot = 1; word = 0 } ∷ []) (None)), refl), refl)
 
 s32 : WordStep t18 (restores 0) t19
@@ -198,7 +198,7 @@ s34 = ((caller_at Parted 3 0 4294967298 false), (refl, refl), record { there = r
 s35 : WordStep t21 (releases 0) t22
 s35 = ((caller_at Still 4 1 12884901889 false), (refl, refl), record { there = refl; fits = ltb-true 4294967297 18446744073709551616 refl; becomes = refl })
 
-s36 : WordStep t22 (notes Border) t22
+s36 : WordStep t22 (notes LockTaken) t22
 s36 = (((master_at 1 (None) (None) (None) ([]) (record { slot = 1; word = 0 } ∷ []) (None)), refl), refl)
 
 s37 : WordStep t22 (loads_hold 1) t23

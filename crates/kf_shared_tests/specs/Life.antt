@@ -9,7 +9,7 @@ use Rattle.kf_core.specs.declared.slot.NodeFlags.{NodeFlags}
 use Rattle.kf_core.specs.Bare.{IsCaller, IsLast}
 use Rattle.kf_core.specs.Marks.{live_marks}
 use Rattle.kf_core.specs.Tree.{marks_of}
-use Rattle.kf_words.specs.declared.note.Note.TheVariants.{Did, Claimed, Began, Border}
+use Rattle.kf_words.specs.declared.note.Note.TheVariants.{Did, Claimed, Began, LockTaken, LockReleased}
 use Rattle.kf_words.specs.Callers.{TableId}
 use Rattle.kf_words.specs.Life.{life_opening, with_marks_of}
 use Rattle.kf_words.specs.Rule.{Shown}
@@ -36,14 +36,14 @@ create key = Create key root_key (97 ∷ []) Dir true
 
 -- the tree is made, under the lock the directory, and two callers come to hold it. Caller 0 calls into it
 abbrev pub call_steps : List StepKind
-call_steps = notes (Began 2 root_key) ∷ notes Border ∷ loads_hold 1 ∷ stores_fresh 1 ∷ stores_node 1 0 0
+call_steps = notes (Began 2 root_key) ∷ notes LockTaken ∷ loads_hold 1 ∷ stores_fresh 1 ∷ stores_node 1 0 0
     ∷ stores_node 1 1 0 ∷ stores_node 1 2 0 ∷ births 1 ∷ takes_bias 1 ∷ notes (Did (create first_key))
     ∷ loads_hold 1 ∷ pins_hold 1 ∷ splits 1 ∷ loads_hold 1 ∷ pins_hold 1 ∷ splits 1 ∷ tries 0 ∷ []
 
 -- it begins to remove itself: while the lock is held once the directory is marked, and that is claimed
 abbrev pub mark_steps : List StepKind
-mark_steps = notes Border ∷ notes (Did (Doom first_key)) ∷ marks_node 1 ∷ notes (Claimed first_key)
-    ∷ notes Border ∷ []
+mark_steps = notes LockTaken ∷ notes (Did (Doom first_key)) ∷ marks_node 1 ∷ notes (Claimed first_key)
+    ∷ notes LockReleased ∷ []
 
 abbrev pub until_marked : List StepKind
 until_marked = call_steps ++ mark_steps
@@ -58,15 +58,15 @@ until_drained = until_marked ++ drain_steps
 -- under the lock the directory is taken out, and caller 1 sees it. Under the lock caller 0 is restored, and
 -- then it ends its call
 abbrev pub part_steps : List StepKind
-part_steps = notes Border ∷ looks_over 1 ∷ unlinks 1 ∷ notes (Did (Unlink first_key)) ∷ notes Border
-    ∷ parts 1 ∷ notes Border ∷ restores 0 ∷ leaves 0 ∷ []
+part_steps = notes LockTaken ∷ looks_over 1 ∷ unlinks 1 ∷ notes (Did (Unlink first_key)) ∷ notes LockReleased
+    ∷ parts 1 ∷ notes LockTaken ∷ restores 0 ∷ leaves 0 ∷ []
 
 abbrev pub until_parted : List StepKind
 until_parted = until_drained ++ part_steps
 
 -- both give their holds back, and the next directory is made in the slot
 abbrev pub next_steps : List StepKind
-next_steps = releases 1 ∷ releases 0 ∷ notes Border ∷ loads_hold 1 ∷ stores_fresh 1 ∷ stores_node 1 0 0
+next_steps = releases 1 ∷ releases 0 ∷ notes LockTaken ∷ loads_hold 1 ∷ stores_fresh 1 ∷ stores_node 1 0 0
     ∷ stores_node 1 1 0 ∷ stores_node 1 2 0 ∷ births 1 ∷ takes_bias 1 ∷ notes (Did (create next_key)) ∷ []
 
 abbrev pub until_again : List StepKind

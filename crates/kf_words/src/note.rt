@@ -13,9 +13,11 @@ pub enum Note {
     Compacted,
     /// A tree of this many slots was made, with only this root.
     Began(u32, Key),
-    /// The lock was taken, or is about to be released: what stands between two of these was done while it was
-    /// held once.
-    Border,
+    /// The lock was taken.
+    LockTaken,
+    /// The lock is about to be released: what stands between `LockTaken` and this was done while it was held
+    /// once.
+    LockReleased,
 }
 
 /// A note, which a call picks.

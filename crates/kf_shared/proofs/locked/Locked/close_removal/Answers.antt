@@ -17,8 +17,8 @@ pub returns : goal.returns
 returns g c =
     let gone = c.unlink_unused-rest.ensures.noted in record {
       ended = subst (λ before. WasEnded c.args.self.now before c.meet_last.result) c.into_parts-holds.ensures.holds
-          (ended_turn c.args.self.now c.meet_back.new.self c.unlink_unused-rest.new.self c.border.new.self c.meet_back.new.self.master.seen c.meet_last.new.self.master.seen
+          (ended_turn c.args.self.now c.meet_back.new.self c.unlink_unused-rest.new.self c.end_section.new.self c.meet_back.new.self.master.seen c.meet_last.new.self.master.seen
           _ c.meet_back.new.holds.items c.unlink_unused-rest.result c.meet_last.result gone.0
           (subst (λ (items : List Handle). HasMet (history c.args.self.now) c.meet_back.new.self.master.seen items c.meet_back.new.holds.items) c.from_vec-holds.ensures.items c.meet_back.ensures.met)
-          c.meet_back.ensures.words.history c.unlink_unused-rest.ensures.owners gone.1 gone.2 c.border.ensures.noted c.meet_last.ensures.met c.meet_last.ensures.words.history);
+          c.meet_back.ensures.words.history c.unlink_unused-rest.ensures.owners gone.1 gone.2 c.end_section.ensures.noted c.meet_last.ensures.met c.meet_last.ensures.words.history);
     }

@@ -53,4 +53,4 @@ returns-clause-turned g c =
     u.ensures.turned (subst (λ (l : List Handle). Each (Learned notes) l made) parts.1 c.meet_each.ensures.met)
     (take_at (s.result.0.now ++ made) _ u.new.receipts.len long ∙ ap (λ (l : List Handle). l ++ made) parts.0)
     (subst (λ (n : List Note). FirstLearned n (option_to_list u.result ++ u.new.holds.items) (option_to_list c.meet_next.result ++ c.meet_next.new.holds.items)) c.meet_each.ensures.kept.history c.meet_next.ensures.met)
-    (ap history c.self.view_is ∙ c.border.ensures.noted)
+    (ap history c.self.view_is ∙ c.end_section.ensures.noted)

@@ -1,10 +1,10 @@
-use Rattle.kf_shared.proofs.Hearing.{held_border}
+use Rattle.kf_shared.proofs.Hearing.{held_released}
 use Rattle.kf_shared.proofs.Told.{held_master}
 use Rattle.kf_shared.proofs.locked.Locked.unlink_alone.Goals as goal
 
 pub invariant_of-self-2 : goal.invariant_of-self-2
 invariant_of-self-2 g c =
     let s = c.self-2.inside.state in
-    let m = c.note_border.new.master in
+    let m = c.note_released.new.master in
     let claims = c.self-2.inside.claims.items in
-    held_master g.N.Naming.table s m c.meet_drained-2.new.self claims (held_border g.N.Naming.table s c.self-2.inside.master m claims c.self-2.invariant c.note_border.ensures) c.meet_drained-2.ensures.kept
+    held_master g.N.Naming.table s m c.meet_drained-2.new.self claims (held_released g.N.Naming.table s c.self-2.inside.master m claims c.self-2.invariant c.note_released.ensures) c.meet_drained-2.ensures.kept
