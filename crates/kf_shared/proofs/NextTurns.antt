@@ -260,7 +260,8 @@ long_alike R [] (y ∷ ys) e = absurd e
 long_alike R (x ∷ xs) [] e = absurd e
 long_alike R (x ∷ xs) (y ∷ ys) e = (let n = long_alike R xs ys e.1 in omega (arith, n))
 
--- then the release of the lock was noted, and the receipts and the first of those that are left learned of that
+-- then the release of the lock was noted, and the receipts and the first of those that are left learned of
+-- that
 pub turn_shut : (found after : List Note) (holds before receipts left made receipts' left' : List Handle) (notes : List Note) (u : WereUnlinked found after holds before receipts left)
     → Each (Learned notes) u.made made → receipts' ≡ before ++ made → FirstLearned notes left left' → notes ≡ after ++ LockReleased ∷ [] → WasTurn found holds before receipts' left'
 turn_shut found after holds before receipts left made receipts' left' notes u learned is first shut = record {

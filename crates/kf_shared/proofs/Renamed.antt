@@ -1,4 +1,5 @@
--- A tree without a name lies in memory as one with a name does, and owns the same if the name is that of its table.
+-- A tree without a name lies in memory as one with a name does, and owns the same if the name is that of its
+-- table.
 use Rattle.std.proofs.Common.{◌≡◌, ℕ, List, [], ◌∷◌, refl, ap, ◌∙◌}
 use base.Fraction.{full_share}
 use base.Fml.{GName, Lft, Share, ftrue, flft, fsep}

@@ -1,4 +1,5 @@
--- The last turn of a removal under the lock: the first of its nodes are unlinked, and its last hold learns of that.
+-- The last turn of a removal under the lock: the first of its nodes are unlinked, and its last hold learns of
+-- that.
 use Rattle.std.proofs.Common.{◌≡◌, zero, suc, ◌<◌, inl, inr, List, [], ◌∷◌, ◌++◌, length, drop, get_or, refl, sym, ap, ◌∙◌, subst, arith}
 use Rattle.std.proofs.lemmas.List.{append_assoc, length-append, same_from_push}
 use mathlib.Core.List.{IsPrefix}

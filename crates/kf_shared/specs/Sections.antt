@@ -215,8 +215,8 @@ abbrev pub AllCame : List Note → List Handle → Type 0
 AllCame notes [] = ⊤
 AllCame notes (hold ∷ holds) = IsPrefix (history_of hold.seen) notes × AllCame (unlinked notes hold.key) holds
 
--- there is a first of these holds, which waited once it had learned that this history had come; and the others
--- waited for nobody
+-- there is a first of these holds, which waited once it had learned that this history had come; and the
+-- others waited for nobody
 abbrev pub FirstWaited : List Note → List Handle → List Handle → Type 0
 FirstWaited past [] receipts = ⊥
 FirstWaited past (hold ∷ holds) [] = ⊥
@@ -224,9 +224,9 @@ FirstWaited past (hold ∷ holds) (receipt ∷ receipts) = WaitedAfter past (sea
     × Each (λ x y. OnlyLooked (seat_view x) (seat_view y)) holds receipts
 
 -- a turn of a removal that has these keys left, after this history: the unlinks of its nodes, in the order of
--- the keys, at most 64, are all that came before the lock was released, except that the next key may have been
--- unlinked too and have no receipt yet. Each receipt has seen that release. Nobody waited for a node but the
--- first, and for that only once the turn before was over
+-- the keys, at most 64, are all that came before the lock was released, except that the next key may have
+-- been unlinked too and have no receipt yet. Each receipt has seen that release. Nobody waited for a node but
+-- the first, and for that only once the turn before was over
 pub record IsTurn (past : List Note) (keys : List Key) (turn : Turn) : Type 0 where
   pub after : IsPrefix past turn.found
   pub taken : IsTaken turn.found

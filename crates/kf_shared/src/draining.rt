@@ -198,8 +198,8 @@ impl<'a, N: Naming> Model for Draining<'a, N> {
 impl<N: Naming> Draining<'_, N> {
     /// Waits until the nodes are drained, and takes them out of the tree, as [`Removing::finish`] does. The
     /// receipts stand in the order of the removal's holds, each of its hold's own seat. A receipt that the
-    /// removal had stays as it was. It takes no memory, and may never return: it waits for every callback that
-    /// runs on the nodes, its caller's own among them, and for the lock, which its caller must not have.
+    /// removal had stays as it was. It takes no memory, and may never return: it waits for every callback
+    /// that runs on the nodes, its caller's own among them, and for the lock, which its caller must not have.
     ///
     /// Context: sleeps; takes the tree's lock, unless no node was in use.
     pub fn finish<R: Wait>(self, rt: &R) -> Vec<Parted>

@@ -2,11 +2,10 @@
 //!
 //! - `SharedTree::new` gives a `NewTree`, and `named` its name `N: Naming`, by which the checker knows which
 //!   tree a hold belongs to. `edit` locks it for one `Editor`, `read` shares it among `Reader`s.
-//! - `Editor` has the commands of `kf_tree`, `hold` for a node's holds, and removals: `remove`,
-//!   `remove_key`, `remove_path` mark, unlink what nobody uses, and unlock. Then they wait and unlink the rest,
-//!   up to 64 nodes in a turn of the lock. They return a receipt (`Parted`) for each node. After
-//!   `begin_removal`, `end_removal` unlocks and `Draining::finish` waits. A callback removes its own node by
-//!   `remove_self`.
+//! - `Editor` has the commands of `kf_tree`, `hold` for a node's holds, and removals: `remove`, `remove_key`,
+//!   `remove_path` mark, unlink what nobody uses, and unlock. Then they wait and unlink the rest, up to 64
+//!   nodes in a turn of the lock. They return a receipt (`Parted`) for each node. After `begin_removal`,
+//!   `end_removal` unlocks and `Draining::finish` waits. A callback removes its own node by `remove_self`.
 //! - `Locked` is the same tree for a program that has a lock of another kind.
 //! - `SharedTree::with_looks` keeps words for look-ups too: an `Editor` gives a `Lookup`, by which a thread
 //!   finds names without the lock (`kf_live`). A `PathHolder` takes holds of them. Other trees store none.

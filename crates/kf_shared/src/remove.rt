@@ -78,10 +78,10 @@ impl<N: Naming> SharedTree<N> {
         editor.guard.unlink_alone(drained)
     }
 
-    /// Finishes the holds in their order, and adds the receipt of each to `receipts`. It waits until the first
-    /// node is drained, and takes it and those after it that nobody uses out of the tree in one turn of the
-    /// lock, at most 64; then it does the same for those that are left. In a turn nothing else is done. It
-    /// takes no memory, and may never return, as `finish`.
+    /// Finishes the holds in their order, and adds the receipt of each to `receipts`. It waits until the
+    /// first node is drained, and takes it and those after it that nobody uses out of the tree in one turn of
+    /// the lock, at most 64; then it does the same for those that are left. In a turn nothing else is done.
+    /// It takes no memory, and may never return, as `finish`.
     ///
     /// Conditions: all are of this tree's table, and `receipts` has room for one more of each hold.
     ///
@@ -107,9 +107,9 @@ impl<N: Naming> SharedTree<N> {
     /// siblings in byte order of names, the given hold's last. If the node is no longer linked, the receipt
     /// is only for it. Which tree that was the history says: it had come after all that the hold had seen.
     /// The doom, and the unlinks of the first of the nodes in their order, are all that came before the lock
-    /// was released, and the last receipt has seen that. It may never return: it waits, while the tree is unlocked,
-    /// for every callback that runs in the subtree, its caller's own among them, and for the lock, which its
-    /// caller must not have. A callback that removes its own node calls `remove_self`.
+    /// was released, and the last receipt has seen that. It may never return: it waits, while the tree is
+    /// unlocked, for every callback that runs in the subtree, its caller's own among them, and for the lock,
+    /// which its caller must not have. A callback that removes its own node calls `remove_self`.
     ///
     /// Condition: the hold is of this tree's table.
     ///

@@ -73,12 +73,12 @@ impl<N: Naming> Removing<N> {
         self.holds.as_slice()
     }
 
-    /// Waits, while the tree is unlocked, until the nodes are drained, and takes them out of the tree in their
-    /// order. After each wait it takes as many as nobody uses, at most 64, in one turn of the lock, in which it
-    /// does nothing else. The receipts stand in the order of the holds, each of its hold's own seat, and each
-    /// has seen the turn of its unlink. No node is waited for before all earlier ones are out of the tree. It
-    /// takes no memory, and may never return: it waits for every callback that runs on the nodes, its caller's
-    /// own among them, and for the lock, which its caller must not have.
+    /// Waits, while the tree is unlocked, until the nodes are drained, and takes them out of the tree in
+    /// their order. After each wait it takes as many as nobody uses, at most 64, in one turn of the lock, in
+    /// which it does nothing else. The receipts stand in the order of the holds, each of its hold's own seat,
+    /// and each has seen the turn of its unlink. No node is waited for before all earlier ones are out of the
+    /// tree. It takes no memory, and may never return: it waits for every callback that runs on the nodes,
+    /// its caller's own among them, and for the lock, which its caller must not have.
     ///
     /// Context: sleeps; takes the tree's lock, which its caller must not have.
     pub fn finish<R: Wait>(self, rt: &R, tree: &SharedTree<N>) -> Vec<Parted>

@@ -1,5 +1,5 @@
 //! The turns of the lock, by which a removal takes the nodes out of the tree that it has to wait for.
-ghost use Rattle.std.specs.Prelude.{◌≡◌, ◌+◌, ◌≤◌, ◌⊎◌, ◌∷◌, ◌++◌, [], IfOk, MatchResult, IfNone, length, vec_capacity, vec_len, List};
+ghost use Rattle.std.specs.Prelude.{◌≡◌, ◌+◌, ◌≤◌, ◌⊎◌, ◌∷◌, ◌++◌, MatchResult, IfNone, length, vec_capacity, vec_len, List};
 ghost use Rattle.std.specs.Option.{option_to_list};
 ghost use Rattle.std.specs.VecDeque.{deque_len};
 ghost use mathlib.Core.List.{IsPrefix};
@@ -32,8 +32,8 @@ fn meet_each(master: &mut Master, receipts: &mut [Parted])
     }
 }
 
-/// So does the first of the nodes that are left: it waits for nobody before it knows that all that came before
-/// it in the removal is done.
+/// So does the first of the nodes that are left: it waits for nobody before it knows that all that came
+/// before it in the removal is done.
 fn meet_next(
     master: &mut Master,
     drained: Option<Drained>,
