@@ -34,8 +34,8 @@ pub rule_kept : RuleKept
 rule_kept lanes t u [] r e = subst (λ (x : Table). Kept lanes x) (sym e) r
 rule_kept lanes t u (kind ∷ kinds) r s = rule_kept lanes s.0 u kinds (step_keeps lanes t s.0 kind r s.1) s.2
 
--- what one step makes of the keeper's plan: it stays, except for a pass; the gate is shut; a lane was looked at; the
--- next opening begins
+-- what one step makes of the keeper's plan: it stays, except for a pass; the gate is shut; a lane was looked
+-- at; the next opening begins
 data Onward (lanes : ℕ) (p q : GatePlan) : Type 0 where
   stays : q.number ≡ p.number → q.shut ≡ p.shut → q.seen ≡ p.seen → Onward lanes p q
   is_shut : p.shut ≡ false → q.number ≡ p.number → q.shut ≡ true → Onward lanes p q

@@ -34,8 +34,8 @@ impl Seat {
         }
     }
 
-    /// Drops what it is: a hold is released, and a call ended first. True if a sleeper at its node may wait for
-    /// that.
+    /// Drops what it is: a hold is released, and a call ended first. True if a sleeper at its node may wait
+    /// for that.
     pub fn end(self) -> bool
         ensures { EndOwed self result }
     {

@@ -3,7 +3,7 @@
 ghost use Rattle.std.specs.Prelude.{◌≡◌, ◌≤◌, ◌<◌, ◌-◌, ◌+◌, ◌^◌, [], ◌∷◌, ◌++◌, length, slice_set, IfOk, IfErr};
 ghost use Rattle.kf_core.specs.declared.key.Key.{Key};
 ghost use Rattle.kf_core.specs.declared.caller.Phase.TheVariants.{Still, Spent};
-ghost use Rattle.kf_core.specs.declared.refusal.Refusal.TheVariants.{NoMemory, NoEntry, TooManyHolds};
+ghost use Rattle.kf_core.specs.declared.refusal.Refusal.TheVariants.{NoMemory};
 ghost use Rattle.std.specs.Prelude.{true};
 ghost use Rattle.kf_core.specs.Tree.{is_linked};
 ghost use Rattle.kf_world.specs.Bounded.{hold_count};

@@ -1,6 +1,6 @@
 //! The requests on open files, and notify.
 
-ghost use Rattle.std.specs.Prelude.{◌≡◌, ◌<◌, ℕ, take, None, Some, Ok, Err, Result, IfOk, IfErr, OnOk, IsSome, slice_index};
+ghost use Rattle.std.specs.Prelude.{◌≡◌, ◌<◌, ℕ, None, Some, Ok, Err, Result, IfOk, IfErr, OnOk, IsSome, slice_index};
 ghost use Rattle.kf_core.specs.declared.key.Key.{Key};
 ghost use Rattle.kf_core.specs.declared.refusal.Refusal.TheVariants.{Invalid};
 ghost use Rattle.kf_pages.specs.declared.ops.FileError.{FileError};

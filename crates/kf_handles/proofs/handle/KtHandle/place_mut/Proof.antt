@@ -77,7 +77,8 @@ place_mut_spec 𝓤 𝓛 𝓜 𝓡 wired =
     move ! (1 ∷ []) $ box_out place_box ! boxed us (λ b o hv is_at is_word fits.
     move ! (1 ∷ 2 ∷ []) $ fjoin ! $ move ! (1 ∷ []) $
     rewrite ! 2 (λ (ws : List Val). ‵ (cell_at full_share Whole.mir ws rb ro)) is_word refl $
-    -- [the place; the right to free it with the allocator; the handle's word; its open borrow, in three entries]
+    -- [the place; the right to free it with the allocator; the handle's word; its open borrow, in three
+    -- entries]
     sets ! (of_opd ! (load ! (through ! refl (fld ! refl (stop !))) (look_in ! 2 (sub ! 0 refl (whole !))))) refl (tt, tt) $
     sets ! (of_opd ! (get ! refl)) refl (tt, tt) $
     first ! $ blocks ! $ sets_last ! (addr ! (through ! refl (stop !))) refl (tt, tt) $
