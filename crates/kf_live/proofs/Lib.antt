@@ -5,3 +5,4 @@ pub mod Single
 pub mod Writers
 pub mod Alike
 pub mod Alone
+pub mod Grown

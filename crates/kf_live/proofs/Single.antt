@@ -30,9 +30,9 @@ use Rattle.kf_looks.proofs.Naming.{of_tells, of_own}
 use Rattle.kf_looks.specs.Links.{IsOfSlot}
 use Rattle.kf_looks.specs.Lines.{bytes_in}
 use Rattle.kf_live.specs.declared.telling.Spot.{Spot}
-use Rattle.kf_live.specs.Live.{SayBut, Say, StandsAt, SameBut, StaysDoomed, IsOut, Stood, IsMove, IsLeftAt, without, found_of, live_found}
+use Rattle.kf_live.specs.Live.{AreSound, SayBut, Say, StandsAt, SameBut, StaysDoomed, IsOut, Stood, IsMove, IsLeftAt, without, found_of, live_found}
 use Rattle.kf_live.proofs.Doomed.{is_doomed, doomed_not_live, was_active}
-use Rattle.kf_live.proofs.Said.{one_record, one_place, of_slot, told_none}
+use Rattle.kf_live.proofs.Said.{one_record, one_place, of_slot, sound_but, told_none}
 use Rattle.kf_live.proofs.Frames.{said_created, said_quiet, was_there, is_there, only_key}
 
 -- ---- a new node
@@ -75,9 +75,12 @@ moved_only t key dir name k n = find_mapped t (going key dir name) same_keys k �
 module _ (t t' : Tree) (root key : Key) (lawful : Lawful t root) (links : List Link) (says : Say links t) (same : SameBut key t t') (stays : StaysDoomed key t t') where
   -- what is found of a record that is elsewhere
   stays_found : (d : Key) (n : List ℕ) (found : Found) (is : child_of links d n ≡ Some found) → (says.known d n found is).0.key ≢ key
-      → (s : Record) × StandsAt t' d n s × (found.key ≡ s.key) × (doomed_in t' d ≡ false → (contains_key (key ∷ []) s.key ≡ true) ⊎ ((lives s ≡ true) × (found ≡ found_of s)))
+      → (s : Record) × StandsAt t' d n s × (found.key ≡ s.key) × (doomed_in t' d ≡ false → (contains_key [] s.key ≡ true) ⊎ ((lives s ≡ true) × (found ≡ found_of s)))
   stays_found d n found is other = (let was = says.known d n found is in
-      (was.0, is_there t t' key links same d n was.0 other was.1, was.2, λ active. elim (was.3 (was_active t t' key same stays d active)) [ inl never ↦ absurd (cc (never)) | inr now ↦ inr now ]))
+      (was.0, is_there t t' key links same d n was.0 other was.1, was.2, λ active. was.3 (was_active t t' key same stays d active)))
+
+  pub withdrawn_none_sound : ((d : Key) (n : List ℕ) (found : Found) (is : child_of links d n ≡ Some found) → (says.known d n found is).0.key ≢ key) → AreSound links t'
+  withdrawn_none_sound other d n found is = stays_found d n found is (other d n found is)
 
   pub withdrawn_none : ((d : Key) (n : List ℕ) (found : Found) (is : child_of links d n ≡ Some found) → (says.known d n found is).0.key ≢ key) → SayBut (key ∷ []) links t'
   withdrawn_none other = record {
@@ -85,7 +88,7 @@ module _ (t t' : Tree) (root key : Key) (lawful : Lawful t root) (links : List L
       | inl e ↦ inl (only_key t t' key links same s.key e.1)
       | inr apart ↦ elim (says.told d n s (was_there t t' key links same d n s apart.1 there) live) [ inl never ↦ absurd (cc (never)) | inr is ↦ inr is ]
     ];
-    known = λ d n found is. stays_found d n found is (other d n found is);
+    known = sound_but t' links (key ∷ []) (withdrawn_none_sound other);
   }
 
   module _ (dir : Key) (name : List ℕ) (r : Record) (own : r.key ≡ key) (stood : StandsAt t dir name r) where
@@ -102,6 +105,13 @@ module _ (t t' : Tree) (root key : Key) (lawful : Lawful t root) (links : List L
     here d n e = let p = of_tells d n gone e in
         subst (λ x. StandsAt t x n r) p.0 (subst (λ x. StandsAt t dir x r) p.1 stood)
 
+    pub withdrawn_one_sound : AreSound (gone ∷ links) t'
+    withdrawn_one_sound d n found = elim (is_of d n gone) as (λ b. is_of d n gone ≡ b → cond b None (child_of links d n) ≡ Some found → (s : Record) × StandsAt t' d n s × (found.key ≡ s.key)
+        × (doomed_in t' d ≡ false → (contains_key [] s.key ≡ true) ⊎ ((lives s ≡ true) × (found ≡ found_of s)))) [
+          | true ↦ λ e is. absurd (none-some found is)
+          | false ↦ λ e is. (let was = says.known d n found is in stays_found d n found is (apart d n was.0 was.1 e))
+        ] refl
+
     pub withdrawn_one : SayBut (key ∷ []) (gone ∷ links) t'
     withdrawn_one = record {
       told = λ d n s there live. elim (keys_tell s.key key) [
@@ -112,11 +122,7 @@ module _ (t t' : Tree) (root key : Key) (lawful : Lawful t root) (links : List L
               | false ↦ λ e. elim (says.told d n s before live) [ inl never ↦ absurd (cc (never)) | inr is ↦ inr is ]
             ] refl)
       ];
-      known = λ d n found. elim (is_of d n gone) as (λ b. is_of d n gone ≡ b → cond b None (child_of links d n) ≡ Some found → (s : Record) × StandsAt t' d n s × (found.key ≡ s.key)
-          × (doomed_in t' d ≡ false → (contains_key (key ∷ []) s.key ≡ true) ⊎ ((lives s ≡ true) × (found ≡ found_of s)))) [
-            | true ↦ λ e is. absurd (none-some found is)
-            | false ↦ λ e is. (let was = says.known d n found is in stays_found d n found is (apart d n was.0 was.1 e))
-          ] refl;
+      known = sound_but t' (gone ∷ links) (key ∷ []) withdrawn_one_sound;
     }
 
 -- what was found in the record's place has its slot
@@ -128,6 +134,11 @@ move_slot links key (Some spot) t m = subst (λ (k : Key). IsOfSlot links spot.d
 pub move_says : (links : List Link) (key : Key) (was : Option Spot) (t : Tree) → IsMove links key was t → SayBut (key ∷ []) (without was links) t
 move_says links key None t m = withdrawn_none m.before t m.root key m.lawful links m.says m.same m.stays_doomed (λ d n found is. (let was = m.says.known d n found is in m.stood d n was.0 was.1))
 move_says links key (Some spot) t m = withdrawn_one m.before t m.root key m.lawful links m.says m.same m.stays_doomed spot.dir (bytes_in spot.name) m.stood.0 m.stood.1 m.stood.2
+
+-- and what they still find is right already
+pub move_sound : (links : List Link) (key : Key) (was : Option Spot) (t : Tree) → IsMove links key was t → AreSound (without was links) t
+move_sound links key None t m = withdrawn_none_sound m.before t m.root key m.lawful links m.says m.same m.stays_doomed (λ d n found is. (let was = m.says.known d n found is in m.stood d n was.0 was.1))
+move_sound links key (Some spot) t m = withdrawn_one_sound m.before t m.root key m.lawful links m.says m.same m.stays_doomed spot.dir (bytes_in spot.name) m.stood.0 m.stood.1 m.stood.2
 
 pub stood_there : (t : Tree) (key : Key) (was : Option Spot) → IfSome was (λ spot. (r : Record) × (r.key ≡ key) × StandsAt t spot.dir (bytes_in spot.name) r × (spot.child ≡ live_found r)) → IfNone was (IsOut t key) → Stood t key was
 stood_there t key None there out = out

@@ -1,3 +1,4 @@
 pub mod Live
 pub mod Laws
 pub mod Lookers
+pub mod Told

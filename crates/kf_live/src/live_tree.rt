@@ -1,5 +1,5 @@
 //! The tree that publishes its live names to look-ups.
-ghost use Rattle.std.specs.Prelude.{◌≡◌, ◌<◌, ◌≤◌, IfOk, IfErr, MatchBool, Some, None, true, false, slice_get};
+ghost use Rattle.std.specs.Prelude.{◌≡◌, ◌<◌, ◌≤◌, [], IfOk, IfErr, OnOk, OnErr, MatchBool, Some, None, true, false, slice_get};
 ghost use Rattle.kf_core.specs.declared.command.Command.TheVariants.{Create, Activate, Doom, Unlink, Rename, Hide, Show};
 ghost use Rattle.kf_core.specs.Tree.{is_linked};
 ghost use Rattle.kf_core.specs.declared.refusal.Refusal.TheVariants as refusal_of;
@@ -10,6 +10,7 @@ ghost use Rattle.kf_tree.specs.TreeLogs.{IsNew, IsAccepted, IsRefused, IsReadied
 ghost use Rattle.kf_core.specs.Limits.{most_slots};
 ghost use Rattle.kf_live.specs.Live.{Say};
 ghost use Rattle.kf_live.specs.Lookers.{links_seen};
+ghost use Rattle.kf_live.specs.Told.{WereTold};
 
 use crate::lookup::Lookup;
 use crate::publishing::{
@@ -23,7 +24,7 @@ use std::marker::Model;
 use std::sync::Arc;
 
 /// The tree with its stored commands, and the words that look-ups read: they say what it says of its live
-/// nodes, after each command. Contracts see what they see of a [`State`].
+/// nodes, after each command. Contracts see what they see of a [`State`], and all links that were made.
 #[derive(Drop)]
 pub struct LiveTree {
     pub(crate) state: State,
@@ -33,12 +34,12 @@ pub struct LiveTree {
 
 impl Model for LiveTree {
     ghost use Rattle.std.specs.Arc.{arc_value};
-    ghost use Rattle.kf_tree.specs.TreeLogs.{TreeLog};
     ghost use Rattle.kf_live.specs.Live.{Say, Writes};
+    ghost use Rattle.kf_live.specs.Told.{LiveLog, links_by};
 
-    ghost Value = { TreeLog };
+    ghost Value = { LiveLog };
 
-    ghost view = { λ s. s.state };
+    ghost view = { λ s. record { log = s.state; links = links_by s.writer } };
 
     ghost invariant = { λ s.
         Writes (arc_value s.looks) (λ links. Say links s.state.tree) s.writer };
@@ -55,7 +56,8 @@ impl LiveTree {
     pub fn new(alloc: Global, limits: Limits, root: Key, slots: u32) -> Result<LiveTree, Refusal>
         requires in_table { root.slot < limits.slots }
         requires few { slots ≤ most_slots }
-        ensures made { IfOk result (λ tree. IsNew limits.slots root tree) }
+        ensures made { IfOk result (λ tree. IsNew limits.slots root tree.log) }
+        ensures untold { IfOk result (λ tree. tree.links ≡ []) }
         ensures refused { IfErr result (λ refusal. refusal ≡ refusal_of.NoMemory) }
     {
         let (looks, writer) = LookupTable::new(alloc, slots)?;
@@ -73,8 +75,10 @@ impl LiveTree {
     /// Refusal: NoMemory, if the words may have no further owner.
     pub fn looker(&mut self) -> Result<Lookup, Refusal>
         ensures told { IfOk result
-            (λ looker. 0 < looker.slots → Say (links_seen looker) self.old.tree) }
-        ensures root { IfOk result (λ looker. looker.root ≡ self.old.root) }
+            (λ looker. 0 < looker.slots → Say (links_seen looker) self.old.log.tree) }
+        ensures seen { IfOk result
+            (λ looker. 0 < looker.slots → links_seen looker ≡ self.old.links) }
+        ensures root { IfOk result (λ looker. looker.root ≡ self.old.log.root) }
         ensures same { self.new ≡ self.old }
         ensures refused { IfErr result (λ refusal. refusal ≡ refusal_of.NoMemory) }
     {
@@ -89,7 +93,7 @@ impl LiveTree {
 
     /// The tree with its stored commands.
     pub fn state(&self) -> &State
-        ensures same { result.now ≡ self.now }
+        ensures same { result.now ≡ self.now.log }
     {
         &self.state
     }
@@ -98,11 +102,13 @@ impl LiveTree {
     ///
     /// Condition: the order is the post-order of the key's subtree.
     pub fn activate_in_order(&mut self, key: Key, order: &[Key]) -> Result<(), Refusal>
-        requires in_order { IsPostOrder self.old.tree key order.now }
+        requires in_order { IsPostOrder self.old.log.tree key order.now }
         ensures accepted { IfOk result (λ _.
-            IsAccepted self.old self.new (linked_cause self.old.tree key) (Activate key)) }
+            IsAccepted self.old.log self.new.log (linked_cause self.old.log.tree key) (Activate key)) }
+        ensures told { OnOk result (WereTold self.old.links self.new.links self.new.log) }
         ensures refused { IfErr result (λ refusal.
-            IsRefused self.old self.new (linked_cause self.old.tree key) refusal) }
+            IsRefused self.old.log self.new.log (linked_cause self.old.log.tree key) refusal) }
+        ensures untold { OnErr result (self.new.links ≡ self.old.links) }
     {
         self.state.activate_in_order(key, order)?;
         self.writer = publish(&self.looks, self.writer.take(), &self.state, order);
@@ -114,11 +120,15 @@ impl LiveTree {
     ///
     /// Condition: the order is the post-order of the key's subtree.
     pub fn doom_in_order(&mut self, key: Key, order: &[Key]) -> Result<(), Refusal>
-        requires in_order { IsPostOrder self.old.tree key order.now }
+        requires in_order { IsPostOrder self.old.log.tree key order.now }
         ensures accepted { IfOk result (λ _.
-            IsAccepted self.old self.new (doom_cause self.old.tree self.old.root key) (Doom key)) }
+            IsAccepted self.old.log self.new.log
+            (doom_cause self.old.log.tree self.old.log.root key) (Doom key)) }
+        ensures told { OnOk result (WereTold self.old.links self.new.links self.new.log) }
         ensures refused { IfErr result (λ refusal.
-            IsRefused self.old self.new (doom_cause self.old.tree self.old.root key) refusal) }
+            IsRefused self.old.log self.new.log
+            (doom_cause self.old.log.tree self.old.log.root key) refusal) }
+        ensures untold { OnErr result (self.new.links ≡ self.old.links) }
     {
         let _ = self.state.root();
         self.state.doom_in_order(key, order)?;
@@ -138,11 +148,12 @@ impl LiveTree {
         node: Node,
         live: bool,
     ) -> Result<(), Refusal>
-        requires no_fault { create_fault self.old.tree self.old.root parent name.now node ≡ None }
-        requires vacant { slice_get self.old.tree key.slot ≡ Some None }
-        ensures accepted { IfOk result (λ _. IsAccepted self.old self.new
-            (create_cause self.old.tree self.old.root parent name.now node (Some key))
+        requires no_fault { create_fault self.old.log.tree self.old.log.root parent name.now node ≡ None }
+        requires vacant { slice_get self.old.log.tree key.slot ≡ Some None }
+        ensures accepted { IfOk result (λ _. IsAccepted self.old.log self.new.log
+            (create_cause self.old.log.tree self.old.log.root parent name.now node (Some key))
             (Create key parent name.now node live)) }
+        ensures told { OnOk result (WereTold self.old.links self.new.links self.new.log) }
         ensures refused { IfErr result (λ refusal. (refusal ≡ refusal_of.NoMemory) × (self.new ≡ self.old)) }
     {
         let _ = self.state.root();
@@ -156,16 +167,19 @@ impl LiveTree {
     /// As [`State::rename`].
     pub fn rename(&mut self, key: Key, dir: Key, name: &[u8]) -> Result<(), Refusal>
         ensures no_cause { IfOk result
-            (λ _. rename_cause self.old.tree self.old.root key dir name.now ≡ None) }
+            (λ _. rename_cause self.old.log.tree self.old.log.root key dir name.now ≡ None) }
         ensures stays { IfOk result (λ _.
-            is_there_already self.old.tree key dir name.now ≡ true → self.new ≡ self.old) }
-        ensures accepted { IfOk result (λ _. is_there_already self.old.tree key dir name.now ≡ false →
-            IsAccepted self.old self.new (rename_cause self.old.tree self.old.root key dir name.now)
-            (Rename key dir name.now)) }
+            is_there_already self.old.log.tree key dir name.now ≡ true → self.new.log ≡ self.old.log) }
+        ensures accepted { IfOk result (λ _. is_there_already self.old.log.tree key dir name.now ≡ false →
+            IsAccepted self.old.log self.new.log
+            (rename_cause self.old.log.tree self.old.log.root key dir name.now) (Rename key dir name.now)) }
+        ensures told { OnOk result (WereTold self.old.links self.new.links self.new.log) }
         ensures refused { IfErr result (λ refusal.
-            IsRefused self.old self.new (rename_cause self.old.tree self.old.root key dir name.now) refusal) }
+            IsRefused self.old.log self.new.log
+            (rename_cause self.old.log.tree self.old.log.root key dir name.now) refusal) }
+        ensures untold { OnErr result (self.new.links ≡ self.old.links) }
         ensures same_place { IfErr result (λ refusal.
-            refusal ≡ refusal_of.NoMemory → is_there_already self.old.tree key dir name.now ≡ false) }
+            refusal ≡ refusal_of.NoMemory → is_there_already self.old.log.tree key dir name.now ≡ false) }
     {
         let _ = self.state.root();
         let was = place_before(&self.looks, &self.state, key);
@@ -176,12 +190,13 @@ impl LiveTree {
 
     /// As [`State::unlink`].
     pub fn unlink(&mut self, key: Key) -> Result<bool, Refusal>
-        ensures linked { IfOk result (λ unlinked. is_linked self.old.tree key ≡ unlinked) }
+        ensures linked { IfOk result (λ unlinked. is_linked self.old.log.tree key ≡ unlinked) }
         ensures accepted { IfOk result (λ unlinked. MatchBool unlinked
-            (IsAccepted self.old self.new (unlink_cause self.old.tree key) (Unlink key))
+            (IsAccepted self.old.log self.new.log (unlink_cause self.old.log.tree key) (Unlink key))
             (self.new ≡ self.old)) }
+        ensures told { OnOk result (WereTold self.old.links self.new.links self.new.log) }
         ensures refused { IfErr result (λ refusal.
-            (is_linked self.old.tree key ≡ true) × (unlink_cause self.old.tree key ≡ Some refusal)
+            (is_linked self.old.log.tree key ≡ true) × (unlink_cause self.old.log.tree key ≡ Some refusal)
             × (self.new ≡ self.old)) }
     {
         let _ = self.state.root();
@@ -196,9 +211,10 @@ impl LiveTree {
     /// As [`State::may_hide`].
     pub fn may_hide(&mut self, key: Key) -> Result<(), Refusal>
         ensures readied { IfOk result (λ _.
-            IsReadied self.old self.new (hide_cause self.old.tree key) key) }
+            IsReadied self.old.log self.new.log (hide_cause self.old.log.tree key) key) }
         ensures refused { IfErr result (λ refusal.
-            IsRefused self.old self.new (hide_cause self.old.tree key) refusal) }
+            IsRefused self.old.log self.new.log (hide_cause self.old.log.tree key) refusal) }
+        ensures untold { self.new.links ≡ self.old.links }
     {
         self.state.may_hide(key)
     }
@@ -207,8 +223,9 @@ impl LiveTree {
     ///
     /// Condition: [`LiveTree::may_hide`] made the tree ready for this key, and nothing changed since.
     pub fn hide(&mut self, key: Key)
-        requires ready { self.old.ready ≡ Some key }
-        ensures accepted { IsAccepted self.old self.new (hide_cause self.old.tree key) (Hide key) }
+        requires ready { self.old.log.ready ≡ Some key }
+        ensures accepted { IsAccepted self.old.log self.new.log (hide_cause self.old.log.tree key) (Hide key) }
+        ensures told { WereTold self.old.links self.new.links self.new.log }
     {
         self.state.hide(key);
         self.writer = publish_one(&self.looks, self.writer.take(), &self.state, key);
@@ -216,10 +233,11 @@ impl LiveTree {
 
     /// As [`State::show`].
     pub fn show(&mut self, key: Key) -> bool
-        ensures told { result ≡ hidden_in self.old.tree key }
+        ensures was_hidden { result ≡ hidden_in self.old.log.tree key }
         ensures accepted { MatchBool result
-            (IsAccepted self.old self.new None (Show key))
+            (IsAccepted self.old.log self.new.log None (Show key))
             (self.new ≡ self.old) }
+        ensures told { WereTold self.old.links self.new.links self.new.log }
     {
         let shown = self.state.show(key);
         if shown {
@@ -230,7 +248,8 @@ impl LiveTree {
 
     /// As [`State::compact`].
     pub fn compact(&mut self) -> Result<(), Refusal>
-        ensures compacted { IfOk result (λ _. IsCompacted self.old self.new) }
+        ensures compacted { IfOk result (λ _. IsCompacted self.old.log self.new.log) }
+        ensures untold { self.new.links ≡ self.old.links }
         ensures refused { IfErr result (λ refusal. (refusal ≡ refusal_of.NoMemory) × (self.new ≡ self.old)) }
     {
         self.state.compact()

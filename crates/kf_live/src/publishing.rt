@@ -5,6 +5,7 @@ ghost use Rattle.kf_looks.specs.Lines.{bytes_in};
 ghost use Rattle.kf_looks.specs.Links.{IsOfSlot};
 ghost use Rattle.kf_looks.specs.Writing.{links_of};
 ghost use Rattle.kf_live.specs.Live.{AreSound, SayBut, Say, IsLeftAt, IsMove, Stood, Writes, without};
+ghost use Rattle.kf_live.specs.Told.{GrewSound, links_by};
 
 use crate::telling::{Spot, is_in_doomed, place_of, tell, tell_each, tell_one};
 use kf_core::Key;
@@ -24,6 +25,7 @@ pub(crate) fn publish(
     requires says { Writes looks.now (λ links. SayBut keys.now links state.now.tree) writer }
     requires sound { Writes looks.now (λ links. AreSound links state.now.tree) writer }
     ensures says { Writes looks.now (λ links. Say links state.now.tree) result }
+    ensures told { GrewSound state.now.tree (links_by writer) (links_by result) }
 {
     if looks.slots == 0 {
         return writer;
@@ -43,6 +45,7 @@ pub(crate) fn publish_one(
 ) -> Option<Writer>
     requires says { Writes looks.now (λ links. SayBut (key ∷ []) links state.now.tree) writer }
     ensures says { Writes looks.now (λ links. Say links state.now.tree) result }
+    ensures told { GrewSound state.now.tree (links_by writer) (links_by result) }
 {
     if looks.slots == 0 {
         return writer;
@@ -99,6 +102,7 @@ pub(crate) fn publish_move(
 ) -> Option<Writer>
     requires says { Writes looks.now (λ links. IsMove links key was state.now.tree) writer }
     ensures says { Writes looks.now (λ links. Say links state.now.tree) result }
+    ensures told { GrewSound state.now.tree (links_by writer) (links_by result) }
 {
     if looks.slots == 0 {
         return writer;
@@ -125,6 +129,8 @@ pub(crate) fn publish_gone(
         (λ spot. IsOfSlot links spot.dir (bytes_in spot.name) key.slot)) writer }
     ensures gone { (t : Tree) → Writes looks.now (λ links. Say (without left links) t) writer
         → Writes looks.now (λ links. Say links t) result }
+    ensures told { (t : Tree) → Writes looks.now (λ links. Say (without left links) t) writer
+        → GrewSound t (links_by writer) (links_by result) }
 {
     if looks.slots == 0 {
         return writer;

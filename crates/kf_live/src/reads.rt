@@ -12,15 +12,15 @@ use kf_core::{Key, Node, Refusal};
 impl LiveTree {
     /// As [`State::root`].
     pub fn root(&self) -> Key
-        ensures known { result ≡ self.now.root }
-        ensures kept { IsKept self.now }
+        ensures known { result ≡ self.now.log.root }
+        ensures kept { IsKept self.now.log }
     {
         self.state.root()
     }
 
     /// As [`State::create_fault`].
     pub fn create_fault(&self, parent: Key, name: &[u8], node: Node) -> Option<Refusal>
-        ensures first { result ≡ create_fault self.now.tree self.now.root parent name.now node }
+        ensures first { result ≡ create_fault self.now.log.tree self.now.log.root parent name.now node }
     {
         self.state.create_fault(parent, name, node)
     }
@@ -28,29 +28,29 @@ impl LiveTree {
     /// As [`State::may_doom`].
     pub fn may_doom(&self, key: Key) -> Result<(), Refusal>
         ensures checked { MatchResult result
-            (λ _. doom_cause self.now.tree self.now.root key ≡ None)
-            (λ refusal. doom_cause self.now.tree self.now.root key ≡ Some refusal) }
-        ensures kept { IsKept self.now }
+            (λ _. doom_cause self.now.log.tree self.now.log.root key ≡ None)
+            (λ refusal. doom_cause self.now.log.tree self.now.log.root key ≡ Some refusal) }
+        ensures kept { IsKept self.now.log }
     {
         self.state.may_doom(key)
     }
 
     /// As [`State::may_unlink`].
     pub fn may_unlink(&self, key: Key) -> Result<bool, Refusal>
-        ensures linked { IfOk result (λ linked. is_linked self.now.tree key ≡ linked) }
-        ensures no_cause { IfOk result (λ linked. linked ≡ true → unlink_cause self.now.tree key ≡ None) }
+        ensures linked { IfOk result (λ linked. is_linked self.now.log.tree key ≡ linked) }
+        ensures no_cause { IfOk result (λ linked. linked ≡ true → unlink_cause self.now.log.tree key ≡ None) }
         ensures refused { IfErr result (λ refusal.
-            (is_linked self.now.tree key ≡ true) × (unlink_cause self.now.tree key ≡ Some refusal)) }
+            (is_linked self.now.log.tree key ≡ true) × (unlink_cause self.now.log.tree key ≡ Some refusal)) }
     {
         self.state.may_unlink(key)
     }
 
     /// As [`State::post_order`].
     pub fn post_order(&self, key: Key) -> Result<Vec<Key>, Refusal>
-        ensures linked { IfOk result (λ _. linked_cause self.now.tree key ≡ None) }
-        ensures ordered { IfOk result (λ keys. IsPostOrder self.now.tree key keys.items) }
+        ensures linked { IfOk result (λ _. linked_cause self.now.log.tree key ≡ None) }
+        ensures ordered { IfOk result (λ keys. IsPostOrder self.now.log.tree key keys.items) }
         ensures last { IfOk result (λ keys. EndsWith keys.items key) }
-        ensures refused { IfErr result (λ refusal. Refuses (linked_cause self.now.tree key) refusal) }
+        ensures refused { IfErr result (λ refusal. Refuses (linked_cause self.now.log.tree key) refusal) }
     {
         self.state.post_order(key)
     }

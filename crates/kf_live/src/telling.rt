@@ -7,6 +7,7 @@ ghost use Rattle.kf_looks.specs.Lines.{bytes_in};
 ghost use Rattle.kf_looks.specs.Links.{IsOfSlot};
 ghost use Rattle.kf_looks.specs.Writing.{links_of};
 ghost use Rattle.kf_live.specs.Live.{AreSound, SayBut, Say, StandsAt, live_found, IsLeftAt, IsOut, IsGiven};
+ghost use Rattle.kf_live.specs.Told.{GrewSound, IsOneMore};
 
 use kf_core::Key;
 use kf_looks::{Found, LookupTable, Section, ShortName, Writer};
@@ -102,6 +103,7 @@ pub(crate) fn tell(
         → SayBut owed (links_of result.seat) state.now.tree }
     ensures sound { AreSound (links_of section.seat) state.now.tree
         → AreSound (links_of result.seat) state.now.tree }
+    ensures one { IsOneMore (links_of section.seat) (links_of result.seat) }
 {
     let _ = state.root();
     match spot.child {
@@ -120,6 +122,7 @@ pub(crate) fn tell_one(looks: &LookupTable, writer: Writer, state: &State, key: 
         → SayBut owed (links_of result.seat) state.now.tree }
     ensures sound { AreSound (links_of writer.seat) state.now.tree
         → AreSound (links_of result.seat) state.now.tree }
+    ensures one { IsOneMore (links_of writer.seat) (links_of result.seat) }
 {
     let Some(spot) = place_of(state, key) else {
         return writer;
@@ -146,6 +149,7 @@ pub(crate) fn tell_each(looks: &LookupTable, writer: Writer, state: &State, keys
     requires sound { AreSound (links_of writer.seat) state.now.tree }
     ensures table { result.seat.table_id ≡ writer.seat.table_id }
     ensures says { Say (links_of result.seat) state.now.tree }
+    ensures told { GrewSound state.now.tree (links_of writer.seat) (links_of result.seat) }
 {
     let mut writer = writer;
     let mut changes: u32 = 0;

@@ -1,6 +1,7 @@
 use Rattle.std.proofs.Common.{rules, ◌∷◌, sym, subst}
 use Rattle.kf_looks.specs.Writing.{links_of}
 use Rattle.kf_live.specs.Live.{AreSound, SayBut}
+use Rattle.kf_live.specs.Told.{IsOneMore}
 use Rattle.kf_live.proofs.Said.{told_none}
 use Rattle.kf_live.proofs.telling.tell_one.Goals as goal
 
@@ -17,3 +18,8 @@ pub returns-clause-sound : goal.returns-clause-sound
 returns-clause-sound c sound =
     subst (λ links. AreSound links c.args.state.now.tree) (sym c.publish.ensures.links)
     (c.tell-section.ensures.sound (subst (λ links. AreSound links c.args.state.now.tree) (sym c.start.ensures.links) sound))
+
+pub returns-clause-one : goal.returns-clause-one
+returns-clause-one c =
+    subst (λ now. IsOneMore (links_of c.args.writer.seat) now) (sym c.publish.ensures.links)
+    (subst (λ before. IsOneMore before (links_of c.tell-section.result.seat)) c.start.ensures.links c.tell-section.ensures.one)

@@ -5,6 +5,9 @@ use Rattle.kf_looks.specs.declared.view.Link.{Link}
 use Rattle.kf_live.specs.Live.{Say, IsMove}
 use Rattle.kf_live.proofs.Single.{moved_or_stays, moved_or_stays_doomed}
 use Rattle.kf_live.proofs.Writers.{writes_on}
+use Rattle.kf_live.specs.Told.{LiveLog, WereTold, links_by}
+use Rattle.kf_live.proofs.Grown.{told_as}
+use Rattle.kf_live.proofs.Grown.{moved_lawful}
 use Rattle.kf_live.proofs.live_tree.LiveTree.rename.Goals as goal
 
 pub publish_move-requires : goal.publish_move-requires
@@ -21,3 +24,7 @@ publish_move-requires c = record {
         stays_doomed = moved_or_stays_doomed c.self.inside.state c.rename.new.self c.args.key c.args.dir c.args.name.now _ _ c.in_ok-rename.ensures.stays c.in_ok-rename.ensures.accepted;
       }) some;
 }
+
+pub returns-clause-told : goal.returns-clause-told
+returns-clause-told c = subst (λ (s : LiveLog). WereTold s.links (links_by c.publish_move.result) c.rename.new.self) c.self.view_is
+    (told_as c.rename.new.self c.self.inside.writer c.take.result c.publish_move.result (moved_lawful c.self.inside.state c.rename.new.self _ _ _ c.root.ensures.kept.lawful c.in_ok-rename.ensures.stays c.in_ok-rename.ensures.accepted) c.take.ensures.value c.publish_move.ensures.told)
