@@ -2,23 +2,19 @@
 use Rattle.std.proofs.Common.{◌≡◌, ℕ, zero, suc, ◌-◌, Bool, true, false, List, [], ◌∷◌, ◌++◌, sym, ap, ◌∙◌, subst, append_assoc}
 use Rattle.std.proofs.lemmas.List.{append-nil}
 use mathlib.Core.List.{IsPrefix}
-use Rattle.kf_tree.specs.TreeLogs.{TreeLog}
 use Rattle.kf_words.specs.declared.note.Note.{Note}
 use Rattle.kf_words.specs.declared.note.Note.TheVariants.{LockTaken, LockReleased}
 use Rattle.kf_words.specs.declared.sight.Seen.{Seen}
 use Rattle.kf_words.specs.declared.sight.StepKind.{StepKind}
-use Rattle.kf_words.specs.Callers.{TableId, Handle, CallerSight, having_seen, seat_view}
+use Rattle.kf_words.specs.Callers.{Handle, CallerSight, having_seen, seat_view}
 use Rattle.kf_words.specs.Layout.{wants_wake}
 use Rattle.kf_words.specs.Nodes.{MasterState}
 use Rattle.kf_words.specs.Notes.{history_of}
 use Rattle.kf_words.specs.Made.{LookedAndRested, Rested, Waited, WakeSpent, WasMade, WasMadeThenWake}
 use Rattle.kf_words.proofs.Noted.{notes_begin}
 use Rattle.kf_shared.specs.Locked.{Locked, history}
-use Rattle.kf_shared.specs.Noted.{IsNoted, WasNoted}
 use Rattle.kf_shared.specs.Removal.{HasHeard}
 use Rattle.kf_shared.specs.Sections.{SawMore, WasTold, WasClosed}
-use Rattle.kf_shared.proofs.Notes.{IsBare, bare_released, bare_taken, noted_bare}
-use Rattle.kf_shared.proofs.Told.{Held, tied_words}
 
 pub prefix_self : {A : Type 0} (xs : List A) → IsPrefix xs xs
 prefix_self xs = ([], append-nil xs)
@@ -69,19 +65,6 @@ woken_more kind before after w =
 -- what a handle heard was passed on to it
 pub heard_told : (before after : Handle) → HasHeard before after → SawMore before.seen after.seen → WasTold (seat_view before) (seat_view after)
 heard_told before after heard more = record { view = ap (λ (h : Handle). (seat_view h).view) heard; seen = more }
-
--- the lock was taken, and that was noted
-module _ (table : TableId) (s : TreeLog) (m m' : MasterState) (claims : List ℕ) (h : Held table s m claims) where
-  held_bare : (note : Note) → IsBare note → WasNoted note m m' → Held table s m' claims
-  held_bare note bare w =
-      (tied_words table s m m' claims h.0 w.words, subst (IsNoted s claims) (sym w.history) (noted_bare note bare s claims (history_of m.seen) h.1))
-
-  pub held_taken : WasNoted LockTaken m m' → Held table s m' claims
-  held_taken w = held_bare LockTaken bare_taken w
-
-  -- and that it is about to be released
-  pub held_released : WasNoted LockReleased m m' → Held table s m' claims
-  held_released w = held_bare LockReleased bare_released w
 
 -- a handle met the Master, notes were added, and it met the Master again
 module _ (old : Locked) (added : List Note) (before between after : Handle) (m1 m2 m3 : MasterState)

@@ -59,9 +59,9 @@ hold_key_refused s old new key why told same e none h =
 pub doom_key_refused : (s : TreeLog) (old mid new : Locked) (held key : Key) (why : Refusal) → s ≡ old.state → doom_cause s.tree s.root key ≡ None → mid.state ≡ old.state → held ≡ key → DoomRefused mid new held why → KeyRefused old.state key why
 doom_key_refused s old mid new held key why same none between is h =
     let cause : doom_cause old.state.tree old.state.root key ≡ None = subst (λ (l : TreeLog). doom_cause l.tree l.root key ≡ None) same none in
-    let there : DoomRefused (locked old.state mid.master mid.claims) new key why =
-    subst (λ k. DoomRefused (locked old.state mid.master mid.claims) new k why) is (subst (λ (l : TreeLog). DoomRefused (locked l mid.master mid.claims) new held why) between h) in
-    inr (cause, told (is_linked old.state.tree key) (same_key key old.state.root) refl refl cause (removal_refused (locked old.state mid.master mid.claims) new key why there))
+    let there : DoomRefused (locked old.state mid.links mid.master mid.claims) new key why =
+    subst (λ k. DoomRefused (locked old.state mid.links mid.master mid.claims) new k why) is (subst (λ (l : TreeLog). DoomRefused (locked l mid.links mid.master mid.claims) new held why) between h) in
+    inr (cause, told (is_linked old.state.tree key) (same_key key old.state.root) refl refl cause (removal_refused (locked old.state mid.links mid.master mid.claims) new key why there))
   where
     told : (a b : Bool) → is_linked old.state.tree key ≡ a → same_key key old.state.root ≡ b → doom_cause old.state.tree old.state.root key ≡ None
         → MatchBool (is_linked old.state.tree key) (MatchBool (same_key key old.state.root) (why ≡ Invalid) (((why ≡ TooManyHolds) × HasBelow old.state.tree key) ⊎ (why ≡ NoMemory))) (why ≡ NoMemory) → HoldsRefusal why
@@ -83,8 +83,8 @@ pub doom_key_done : (s : TreeLog) (old mid new : Locked) (held key : Key) → s 
     → IsAccepted old.state new.state (doom_cause old.state.tree old.state.root key) (Doom key)
 doom_key_done s old mid new held key same none between is done =
     let cause : doom_cause old.state.tree old.state.root key ≡ None = subst (λ (l : TreeLog). doom_cause l.tree l.root key ≡ None) same none in
-    let there : DoomDone (locked old.state mid.master mid.claims) new key =
-    subst (λ k. DoomDone (locked old.state mid.master mid.claims) new k) is (subst (λ (l : TreeLog). DoomDone (locked l mid.master mid.claims) new held) between done) in
+    let there : DoomDone (locked old.state mid.links mid.master mid.claims) new key =
+    subst (λ k. DoomDone (locked old.state mid.links mid.master mid.claims) new k) is (subst (λ (l : TreeLog). DoomDone (locked l mid.links mid.master mid.claims) new held) between done) in
     MatchBool-at_true _ _ (linked_to_doom old.state.tree old.state.root key cause) there
 
 -- and noted
@@ -92,16 +92,16 @@ pub doom_key_noted : (s : TreeLog) (old mid new : Locked) (held key : Key) → s
     → Adds old new (Did (Doom key))
 doom_key_noted s old mid new held key same none between kept is noted =
     let cause : doom_cause old.state.tree old.state.root key ≡ None = subst (λ (l : TreeLog). doom_cause l.tree l.root key ≡ None) same none in
-    let there : DoomNoted (locked old.state mid.master mid.claims) new key =
-    subst (λ k. DoomNoted (locked old.state mid.master mid.claims) new k) is (subst (λ (l : TreeLog). DoomNoted (locked l mid.master mid.claims) new held) between noted) in
+    let there : DoomNoted (locked old.state mid.links mid.master mid.claims) new key =
+    subst (λ k. DoomNoted (locked old.state mid.links mid.master mid.claims) new k) is (subst (λ (l : TreeLog). DoomNoted (locked l mid.links mid.master mid.claims) new held) between noted) in
     MatchBool-at_true _ _ (linked_to_doom old.state.tree old.state.root key cause) there ∙ ap (λ l. l ++ Did (Doom key) ∷ []) kept
 
 -- the lock keeps what it kept, if the tree and what the Master knows of nodes stayed
 pub whole_kept : (table : TableId) (old new : Locked) → IsWhole table old → new.state ≡ old.state → KeepsNodes old.master new.master → new.claims ≡ old.claims → IsWhole table new
 whole_kept table old new whole state words claims = record {
   kept = subst IsKept (sym state) whole.kept;
-  tied = subst (λ (s : TreeLog). IsTied table (locked s new.master new.claims)) (sym state)
-      (subst (λ (l : List ℕ). IsTied table (locked old.state new.master l)) (sym claims) (tied_master table old.state old.master new.master old.claims whole.tied words));
+  tied = subst (λ (s : TreeLog). IsTied table s new.master new.claims) (sym state)
+      (subst (λ (l : List ℕ). IsTied table old.state new.master l) (sym claims) (tied_master table old.state old.master new.master old.claims whole.tied words));
   told = subst (λ (s : TreeLog). IsNoted s new.claims (history_of new.master.seen)) (sym state)
       (subst (λ (l : List ℕ). IsNoted old.state l (history_of new.master.seen)) (sym claims) (subst (IsNoted old.state old.claims) (sym words.history) whole.told));
 }

@@ -3,6 +3,7 @@ pub mod Notes
 pub mod Ties
 pub mod Told
 pub mod Hearing
+pub mod OfRun
 pub mod Creating
 pub mod Unlinked
 pub mod Ends
@@ -24,5 +25,6 @@ pub mod Hidings
 pub mod Opening
 pub mod Gone
 pub mod Running
+pub mod LookUps
 pub mod Finding
 mod Renamed

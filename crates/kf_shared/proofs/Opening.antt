@@ -36,7 +36,7 @@ module _ (count limit start : ℕ) (log : TreeLog) (m : MasterState) (claims : L
   pub slots_of : length log.tree ≡ count
   slots_of = ap length new.tree ∙ length_set (replicate count (let o : Option Record = None in o)) 0 _ ∙ length-replicate count _
 
-  pub tied_opening : IsTied m.table (record { state = log; master = m; claims = claims })
+  pub tied_opening : IsTied m.table log m claims
   tied_opening = record {
     same_table = refl;
     root = ap (λ (k : Key). k.slot) new.root;

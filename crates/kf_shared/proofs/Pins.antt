@@ -15,6 +15,7 @@ use Rattle.kf_tree.specs.TreeLogs.{TreeLog, IsKept}
 use Rattle.kf_words.specs.Callers.{Handle}
 use Rattle.kf_words.specs.declared.view.MasterView.{MasterView}
 use Rattle.kf_words.specs.Nodes.{MasterState, FoundFull, PinRefused, HeldPinRefused}
+use Rattle.kf_looks.specs.declared.view.Link.{Link}
 use Rattle.kf_shared.specs.Locked.{Locked}
 use Rattle.kf_shared.proofs.Ends.{not_last}
 use Rattle.kf_shared.proofs.Rooms.{top_full}
@@ -81,7 +82,7 @@ full_below s m top keys below seen kept order parts is key h full =
 
 -- what refuses the doom in a state, refuses it in the same one
 pub same_refused : (old mid new : Locked) (key : Key) (refusal : Refusal) → mid.state ≡ old.state → DoomRefused mid new key refusal → DoomRefused old new key refusal
-same_refused old mid new key refusal same h = subst (λ (s : TreeLog). DoomRefused (locked s mid.master mid.claims) new key refusal) same h
+same_refused old mid new key refusal same h = subst (λ (s : TreeLog). DoomRefused (locked s mid.links mid.master mid.claims) new key refusal) same h
 
 -- what was said of a tree and a view is said of the same tree
 pub same_tree : (s s' : TreeLog) (m : MasterView) (top : Key) (refusal : Refusal) → s ≡ s' → HoldsBelowRefused s.tree top m refusal → HoldsBelowRefused s'.tree top m refusal
@@ -142,10 +143,10 @@ pins_given_up s s' m top keys below seen kept order parts is none same linked re
     ])))
 
 -- a hold of the call's own node was refused, and not for lack of memory
-pub held_met : (s : TreeLog) (m held : MasterState) (claims : List ℕ) (now : Locked) (key : Key) (why told : Refusal) → locked s m claims ≡ now → told ≡ why → same_key key now.state.root ≡ false
-    → HeldPinRefused m.view key why held.view → (why ≡ TooManyHolds → FoundFull held.view key.slot) → told ≢ NoMemory → SelfRemovalRefused now (locked s held claims) key told
-held_met s m held claims now key why told is e other h full n =
-    subst (λ r. SelfRemovalRefused now (locked s held claims) key r) (sym e)
-    (subst (λ (l : Locked). SelfRemovalRefused l (locked s held claims) key why) is
-    (held_refused (locked s m claims) (locked s held claims) held key why why (subst (λ (l : Locked). same_key key l.state.root ≡ false) (sym is) other) h full
+pub held_met : (s : TreeLog) (links : List Link) (m held : MasterState) (claims : List ℕ) (now : Locked) (key : Key) (why told : Refusal) → locked s links m claims ≡ now → told ≡ why → same_key key now.state.root ≡ false
+    → HeldPinRefused m.view key why held.view → (why ≡ TooManyHolds → FoundFull held.view key.slot) → told ≢ NoMemory → SelfRemovalRefused now (locked s links held claims) key told
+held_met s links m held claims now key why told is e other h full n =
+    subst (λ r. SelfRemovalRefused now (locked s links held claims) key r) (sym e)
+    (subst (λ (l : Locked). SelfRemovalRefused l (locked s links held claims) key why) is
+    (held_refused (locked s links m claims) (locked s links held claims) held key why why (subst (λ (l : Locked). same_key key l.state.root ≡ false) (sym is) other) h full
     (λ memory. absurd (n (e ∙ memory))) (λ _. (refl, refl))))

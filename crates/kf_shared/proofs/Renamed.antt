@@ -16,7 +16,9 @@ use types.Kit.{Item, ‵, raw, ◌⊛◌, some, later, ◌$◌, ◌∵◌, !, qe
 use types.Logic.{Logic, sem}
 use types.Mut.{open_ref}
 use Rattle.kf_shared.specs.declared.naming.Naming.{Ghosts}
+use Rattle.kf_tree.specs.TreeLogs.{TreeLog}
 use Rattle.kf_words.specs.Callers.{TableId}
+use Rattle.kf_words.specs.Nodes.{MasterState}
 use Rattle.kf_shared.specs.Locked.{IsTied, Locked}
 use Rattle.kf_shared.specs.contracts.tree.NewTree as new
 use Rattle.kf_shared.specs.contracts.locked.Locked as named
@@ -26,7 +28,7 @@ use Rattle.kf_shared.specs.declared.tree.NewTree.TheInside.{Inside as NewInside}
 use Rattle.kf_shared.specs.declared.locked.Locked.TheInside.{Inside as NamedInside}
 
 -- what is tied to one table is tied to the table that its Master has
-of_table : {s : Locked} {old new : TableId} → s.master.table ≡ new → IsTied old s → IsTied new s
+of_table : {s : TreeLog} {m : MasterState} {claims : List ℕ} {old new : TableId} → m.table ≡ new → IsTied old s m claims → IsTied new s m claims
 of_table same tied = record {
   same_table = same;
   root = tied.root;

@@ -19,6 +19,7 @@ use Rattle.kf_core.proofs.Climbs.{same_key_self}
 use Rattle.kf_core.proofs.Lists.{length_set}
 use Rattle.kf_tree.specs.TreeLogs.{TreeLog, IsKept, IsAccepted, IsRefused}
 use Rattle.kf_words.specs.Callers.{TableId}
+use Rattle.kf_looks.specs.declared.view.Link.{Link}
 use Rattle.kf_words.specs.Nodes.{MasterState, KeepsNodes, MayBear, IsVacant, Searched, slots_with}
 use Rattle.kf_tree.specs.SlotMarks.{marks_at, SameMarks, Changed, doomed_if, risen_if}
 use Rattle.kf_tree.proofs.Opening.{length_after}
@@ -28,8 +29,8 @@ use Rattle.kf_shared.specs.Agreement.{HasNodes, OnlyMarks}
 use Rattle.kf_shared.specs.Locked.{Locked, IsTied, BornLowest}
 use Rattle.kf_shared.proofs.Nodes.{nodes_created, nodes_activated, nodes_doomed, nodes_unlinked, nodes_renamed, nodes_hidden}
 
-abbrev pub locked : TreeLog → MasterState → List ℕ → Locked
-locked s m claims = record { state = s; master = m; claims = claims }
+abbrev pub locked : TreeLog → List Link → MasterState → List ℕ → Locked
+locked s links m claims = record { state = s; links = links; master = m; claims = claims }
 
 bearable : (m : MasterState) (next : Option Key) (key : Key) → IfSome next (λ k. MayBear m.view k) → next ≡ Some key → MayBear m.view key
 bearable m None key h e = absurd (none-some key e)
@@ -39,8 +40,8 @@ empty_slot : (m : MasterState) (key : Key) → IsVacant m.view key → IsEmpty m
 empty_slot m key v = record { last = v.last; vacant = v.vacant }
 
 -- what is said of words and tree after a command and its events
-tied : (table : TableId) (s s' : TreeLog) (m m' : MasterState) (claims : List ℕ) (cause : Option Refusal) (c : Command) → IsTied table (locked s m claims) → IsAccepted s s' cause c →
-    m'.table ≡ m.table → length m'.view.slots ≡ length m.view.slots → length m'.nodes ≡ length m.nodes → SameMarks m'.view.slots (after s.tree c) → HasNodes m'.nodes (after s.tree c) → IsTied table (locked s' m' claims)
+tied : (table : TableId) (s s' : TreeLog) (m m' : MasterState) (claims : List ℕ) (cause : Option Refusal) (c : Command) → IsTied table s m claims → IsAccepted s s' cause c →
+    m'.table ≡ m.table → length m'.view.slots ≡ length m.view.slots → length m'.nodes ≡ length m.nodes → SameMarks m'.view.slots (after s.tree c) → HasNodes m'.nodes (after s.tree c) → IsTied table s' m' claims
 tied table s s' m m' claims cause c t a same_table wide all same nodes = record {
   same_table = same_table ∙ t.same_table;
   root = ap (λ (k : Key). k.slot) a.same_root ∙ t.root;
@@ -54,7 +55,7 @@ tied table s s' m m' claims cause c t a same_table wide all same nodes = record 
     long : length s'.tree ≡ length s.tree
     long = ap length a.changed ∙ length_after s.tree c
 
-pub tied_master : (table : TableId) (s : TreeLog) (m m' : MasterState) (claims : List ℕ) → IsTied table (locked s m claims) → KeepsNodes m m' → IsTied table (locked s m' claims)
+pub tied_master : (table : TableId) (s : TreeLog) (m m' : MasterState) (claims : List ℕ) → IsTied table s m claims → KeepsNodes m m' → IsTied table s m' claims
 tied_master table s m m' claims t n = record {
   same_table = n.table ∙ t.same_table;
   root = t.root;
@@ -65,11 +66,11 @@ tied_master table s m m' claims t n = record {
   claims = t.claims;
 }
 
-pub tied_state : (table : TableId) (s s' : TreeLog) (m : MasterState) (claims : List ℕ) → IsTied table (locked s m claims) → s' ≡ s → IsTied table (locked s' m claims)
-tied_state table s s' m claims t e = subst (λ x. IsTied table (locked x m claims)) (sym e) t
+pub tied_state : (table : TableId) (s s' : TreeLog) (m : MasterState) (claims : List ℕ) → IsTied table s m claims → s' ≡ s → IsTied table s' m claims
+tied_state table s s' m claims t e = subst (λ x. IsTied table x m claims) (sym e) t
 
 -- other commands of the same tree
-pub tied_same : (table : TableId) (s s' : TreeLog) (m : MasterState) (claims : List ℕ) → IsTied table (locked s m claims) → s'.root ≡ s.root → s'.tree ≡ s.tree → IsTied table (locked s' m claims)
+pub tied_same : (table : TableId) (s s' : TreeLog) (m : MasterState) (claims : List ℕ) → IsTied table s m claims → s'.root ≡ s.root → s'.tree ≡ s.tree → IsTied table s' m claims
 tied_same table s s' m claims t root tree = record {
   same_table = t.same_table;
   root = ap (λ (k : Key). k.slot) root ∙ t.root;
@@ -80,15 +81,15 @@ tied_same table s s' m claims t root tree = record {
   claims = t.claims ∙ ap length (sym tree);
 }
 
-pub tied_hidden : (table : TableId) (s s' : TreeLog) (m : MasterState) (claims : List ℕ) (key : Key) (cause : Option Refusal) → IsTied table (locked s m claims) → IsAccepted s s' cause (Hide key) → IsTied table (locked s' m claims)
+pub tied_hidden : (table : TableId) (s s' : TreeLog) (m : MasterState) (claims : List ℕ) (key : Key) (cause : Option Refusal) → IsTied table s m claims → IsAccepted s s' cause (Hide key) → IsTied table s' m claims
 tied_hidden table s s' m claims key cause t a = tied table s s' m m claims cause (Hide key) t a refl refl refl (same_hidden m.view.slots s.tree key true t.marks) (nodes_hidden m.nodes s.tree key true t.nodes)
 
-pub tied_shown : (table : TableId) (s s' : TreeLog) (m : MasterState) (claims : List ℕ) (key : Key) (cause : Option Refusal) (hidden : Bool) → IsTied table (locked s m claims) → MatchBool hidden (IsAccepted s s' cause (Show key)) (s' ≡ s) → IsTied table (locked s' m claims)
+pub tied_shown : (table : TableId) (s s' : TreeLog) (m : MasterState) (claims : List ℕ) (key : Key) (cause : Option Refusal) (hidden : Bool) → IsTied table s m claims → MatchBool hidden (IsAccepted s s' cause (Show key)) (s' ≡ s) → IsTied table s' m claims
 tied_shown table s s' m claims key cause true t a = tied table s s' m m claims cause (Show key) t a refl refl refl (same_hidden m.view.slots s.tree key false t.marks) (nodes_hidden m.nodes s.tree key false t.nodes)
 tied_shown table s s' m claims key cause false t e = tied_state table s s' m claims t e
 
 -- the slot of the key that a search returned is vacant in the tree
-pub vacant_next : (table : TableId) (s : TreeLog) (m m1 : MasterState) (claims : List ℕ) (next : Option Key) → IsTied table (locked s m claims) → IsKept s → KeepsNodes m m1 → IfSome next (λ k. MayBear m1.view k) →
+pub vacant_next : (table : TableId) (s : TreeLog) (m m1 : MasterState) (claims : List ℕ) (next : Option Key) → IsTied table s m claims → IsKept s → KeepsNodes m m1 → IfSome next (λ k. MayBear m1.view k) →
     IfSome next (λ key. slice_get s.tree key.slot ≡ Some None)
 vacant_next table s m m1 claims None t k n h = h
 vacant_next table s m m1 claims (Some key) t k n h =
@@ -106,7 +107,7 @@ pub born_lowest : (old found m : MasterState) (next : Option Key) (key : Key) �
 born_lowest old found m next key searched given kept = (found.view, subst (λ n. Searched old.view (option_map (λ (k : Key). k.slot) n) found.view) given searched, kept)
 
 module _ (table : TableId) (s s' : TreeLog) (m m1 m2 : MasterState) (claims : List ℕ) (next : Option Key) (key parent : Key) (name : List ℕ) (node : Node) (is_live : Bool) (cause : Option Refusal)
-    (before : IsTied table (locked s m claims)) (kept : IsKept s) (search : KeepsNodes m m1) (found : IfSome next (λ k. MayBear m1.view k)) (given : next ≡ Some key)
+    (before : IsTied table s m claims) (kept : IsKept s) (search : KeepsNodes m m1) (found : IfSome next (λ k. MayBear m1.view k)) (given : next ≡ Some key)
     (accepted : IsAccepted s s' cause (Create key parent name node is_live)) (same_table : m2.table ≡ m1.table) (nodes : m2.nodes ≡ slice_set m1.nodes key.slot node)
     (slots : m2.view.slots ≡ slots_with m1.view.slots key (Some fresh_marks)) where
   may_bear : MayBear m1.view key
@@ -115,7 +116,7 @@ module _ (table : TableId) (s s' : TreeLog) (m m1 m2 : MasterState) (claims : Li
   empty : IsEmpty m1.view.slots key
   empty = empty_slot m1 key may_bear.vacant
 
-  now : IsTied table (locked s m1 claims)
+  now : IsTied table s m1 claims
   now = tied_master table s m m1 claims before search
 
   vacant : slice_get s.tree key.slot ≡ Some None
@@ -127,14 +128,14 @@ module _ (table : TableId) (s s' : TreeLog) (m m1 m2 : MasterState) (claims : Li
   all_nodes : length m2.nodes ≡ length m1.nodes
   all_nodes = ap length nodes ∙ length_set m1.nodes key.slot node
 
-  pub tied_born : is_live ≡ false → IsTied table (locked s' m2 claims)
+  pub tied_born : is_live ≡ false → IsTied table s' m2 claims
   tied_born e = tied table s s' m1 m2 claims cause (Create key parent name node is_live) now accepted same_table (ap length slots ∙ length_written m1.view.slots key (Some fresh_marks)) all_nodes
       (subst (λ b. SameMarks m2.view.slots (after s.tree (Create key parent name node b))) (sym e)
       (subst (λ xs. SameMarks xs (after s.tree (Create key parent name node false))) (sym slots)
       (same_born m1.view.slots s.tree s.root key parent name node now.marks kept.lawful now.slots empty)))
       has_nodes
 
-  pub tied_born_live : (m3 : MasterState) → is_live ≡ true → m3.table ≡ m2.table → m3.nodes ≡ m2.nodes → m3.view.slots ≡ slots_with m2.view.slots key (Some live_marks) → IsTied table (locked s' m3 claims)
+  pub tied_born_live : (m3 : MasterState) → is_live ≡ true → m3.table ≡ m2.table → m3.nodes ≡ m2.nodes → m3.view.slots ≡ slots_with m2.view.slots key (Some live_marks) → IsTied table s' m3 claims
   tied_born_live m3 e same_last same_nodes last = tied table s s' m1 m3 claims cause (Create key parent name node is_live) now accepted (same_last ∙ same_table)
       (ap length last ∙ length_written m2.view.slots key (Some live_marks) ∙ ap length slots ∙ length_written m1.view.slots key (Some fresh_marks))
       (ap length same_nodes ∙ all_nodes)
@@ -144,9 +145,9 @@ module _ (table : TableId) (s s' : TreeLog) (m m1 m2 : MasterState) (claims : Li
       (subst (λ ns. HasNodes ns (after s.tree (Create key parent name node is_live))) (sym same_nodes) has_nodes)
 
 pub tied_renamed : (table : TableId) (s s' : TreeLog) (m : MasterState) (claims : List ℕ) (key dir : Key) (name : List ℕ) (cause : Option Refusal) (stays : Bool) (result : Result (Unit {0}) Refusal) →
-    IsTied table (locked s m claims) → IfOk result (λ _. stays ≡ true → s' ≡ s) → IfOk result (λ _. stays ≡ false → IsAccepted s s' cause (Rename key dir name)) → IfErr result (λ why. IsRefused s s' cause why) → IsTied table (locked s' m claims)
+    IsTied table s m claims → IfOk result (λ _. stays ≡ true → s' ≡ s) → IfOk result (λ _. stays ≡ false → IsAccepted s s' cause (Rename key dir name)) → IfErr result (λ why. IsRefused s s' cause why) → IsTied table s' m claims
 tied_renamed table s s' m claims key dir name cause stays (Ok u) t same accepted refused =
-    elim stays as (λ b. (b ≡ true → s' ≡ s) → (b ≡ false → IsAccepted s s' cause (Rename key dir name)) → IsTied table (locked s' m claims)) [
+    elim stays as (λ b. (b ≡ true → s' ≡ s) → (b ≡ false → IsAccepted s s' cause (Rename key dir name)) → IsTied table s' m claims) [
       | true ↦ λ x y. tied_state table s s' m claims t (x refl)
       | false ↦ λ x y. tied table s s' m m claims cause (Rename key dir name) t (y refl) refl refl refl (same_renamed m.view.slots s.tree key dir name t.marks) (nodes_renamed m.nodes s.tree key dir name t.nodes)
     ] same accepted
@@ -165,17 +166,17 @@ linked_in_words slots t top keys below rest seen same order parts is i d l =
     go (Some r) = refl
 
 module _ (table : TableId) (s s' : TreeLog) (m m' : MasterState) (claims : List ℕ) (top : Key) (keys : List Key) (cause : Option Refusal)
-    (before : IsTied table (locked s m claims)) (order : IsPostOrder s.tree top keys) (only : OnlyMarks m m') where
-  pub tied_risen : IsAccepted s s' cause (Activate top) → Changed risen_if keys m.view.slots m'.view.slots → IsTied table (locked s' m' claims)
+    (before : IsTied table s m claims) (order : IsPostOrder s.tree top keys) (only : OnlyMarks m m') where
+  pub tied_risen : IsAccepted s s' cause (Activate top) → Changed risen_if keys m.view.slots m'.view.slots → IsTied table s' m' claims
   tied_risen a h = tied table s s' m m' claims cause (Activate top) before a only.table only.slots (ap length only.nodes) (same_risen s.tree top keys m.view.slots m'.view.slots before.marks order h)
       (subst (λ ns. HasNodes ns (after s.tree (Activate top))) (sym only.nodes) (nodes_activated m.nodes s.tree top before.nodes))
 
-  pub tied_doomed : IsAccepted s s' cause (Doom top) → Changed doomed_if keys m.view.slots m'.view.slots → IsTied table (locked s' m' claims)
+  pub tied_doomed : IsAccepted s s' cause (Doom top) → Changed doomed_if keys m.view.slots m'.view.slots → IsTied table s' m' claims
   tied_doomed a h = tied table s s' m m' claims cause (Doom top) before a only.table only.slots (ap length only.nodes) (same_doomed s.tree top keys m.view.slots m'.view.slots before.marks order h)
       (subst (λ ns. HasNodes ns (after s.tree (Doom top))) (sym only.nodes) (nodes_doomed m.nodes s.tree top before.nodes))
 
 pub tied_unlinked : (table : TableId) (s s' : TreeLog) (m m' : MasterState) (claims : List ℕ) (key : Key) (cause : Option Refusal) →
-    IsTied table (locked s m claims) → is_linked s.tree key ≡ true → IsAccepted s s' cause (Unlink key) → m'.table ≡ m.table → m'.nodes ≡ m.nodes → m'.view.slots ≡ slots_with m.view.slots key None → IsTied table (locked s' m' claims)
+    IsTied table s m claims → is_linked s.tree key ≡ true → IsAccepted s s' cause (Unlink key) → m'.table ≡ m.table → m'.nodes ≡ m.nodes → m'.view.slots ≡ slots_with m.view.slots key None → IsTied table s' m' claims
 tied_unlinked table s s' m m' claims key cause t linked a same_table nodes slots = tied table s s' m m' claims cause (Unlink key) t a same_table (ap length slots ∙ length_written m.view.slots key None) (ap length nodes)
     (subst (λ xs. SameMarks xs (after s.tree (Unlink key))) (sym slots) (same_unlinked m.view.slots s.tree key t.marks linked))
     (subst (λ ns. HasNodes ns (after s.tree (Unlink key))) (sym nodes) (nodes_unlinked m.nodes s.tree key linked t.nodes))

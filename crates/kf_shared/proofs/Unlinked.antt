@@ -1,7 +1,6 @@
 -- What an unlink says of what the lock keeps.
 use Rattle.std.proofs.Common.{◌≡◌, inl, inr, ℕ, refl, ap, sym, ◌∙◌, subst, Bool, true, false, List}
-use Rattle.std.specs.Prelude.{Option, None, Some, MatchBool, if◌then◌else◌}
-use Rattle.std.proofs.lemmas.Bool.{MatchBool-at_true}
+use Rattle.std.specs.Prelude.{Option, None, Some, if◌then◌else◌}
 use Rattle.kf_core.specs.declared.key.Key.{Key}
 use Rattle.kf_core.specs.declared.refusal.Refusal.{Refusal}
 use Rattle.kf_core.specs.declared.refusal.Refusal.TheVariants.{Busy}
@@ -10,6 +9,7 @@ use Rattle.kf_core.specs.Tree.{is_linked}
 use Rattle.kf_tree.specs.TreeLogs.{TreeLog, IsAccepted}
 use Rattle.kf_tree.specs.Causes.{unlink_cause}
 use Rattle.kf_words.specs.Callers.{TableId}
+use Rattle.kf_looks.specs.declared.view.Link.{Link}
 use Rattle.kf_words.specs.declared.view.MasterView.{MasterView}
 use Rattle.kf_words.specs.Notes.{history_of}
 use Rattle.kf_words.specs.Nodes.{MasterState, KeepsNodes, UnlinkAnswer, slots_with}
@@ -25,9 +25,9 @@ still_there : (m m' : MasterState) (slot : ℕ) → m'.table ≡ m.table → m'.
 still_there m m' slot table nodes unnoted told = record { history = unnoted; table = table; limit = ap (λ (v : MasterView). v.limit) told.2; nodes = nodes; slots = ap (λ (v : MasterView). v.slots) told.2 }
 
 -- the tree has nothing against it, but the word was found in use
-pub refused_by_word : (s : TreeLog) (m m' : MasterState) (claims : List ℕ) (old : Locked) (key seen : Key) (answer : Bool) → locked s m claims ≡ old → seen ≡ key → unlink_cause s.tree seen ≡ None → answer ≡ false →
-    m'.table ≡ m.table → m'.nodes ≡ m.nodes → history_of m'.seen ≡ history_of m.seen → UnlinkAnswer m.view key.slot answer m'.view → UnlinkRefused old (locked s m' claims) key Busy
-refused_by_word s m m' claims old key seen answer same is no_cause in_use table nodes unnoted told = inr (
+pub refused_by_word : (s : TreeLog) (links : List Link) (m m' : MasterState) (claims : List ℕ) (old : Locked) (key seen : Key) (answer : Bool) → locked s links m claims ≡ old → seen ≡ key → unlink_cause s.tree seen ≡ None → answer ≡ false →
+    m'.table ≡ m.table → m'.nodes ≡ m.nodes → history_of m'.seen ≡ history_of m.seen → UnlinkAnswer m.view key.slot answer m'.view → UnlinkRefused old (locked s links m' claims) key Busy
+refused_by_word s links m m' claims old key seen answer same is no_cause in_use table nodes unnoted told = inr (
   subst (λ k. unlink_cause old.state.tree k ≡ None) is (subst (λ (l : Locked). unlink_cause l.state.tree seen ≡ None) same no_cause),
   refl,
   subst (λ (l : Locked). UnlinkAnswer l.master.view key.slot false m'.view) same (subst (λ b. UnlinkAnswer m.view key.slot b m'.view) in_use told),
@@ -41,9 +41,9 @@ refused_by_word s m m' claims old key seen answer same is no_cause in_use table 
 )
 
 -- both take it out
-pub tied_taken : (table : TableId) (s s' : TreeLog) (m m' : MasterState) (claims : List ℕ) (key seen : Key) (cause : Option Refusal) (may unlinked answer : Bool) → IsTied table (locked s m claims) → seen ≡ key →
-    is_linked s.tree seen ≡ may → may ≡ true → is_linked s.tree seen ≡ unlinked → MatchBool unlinked (IsAccepted s s' cause (Unlink seen)) (s' ≡ s) →
-    m'.table ≡ m.table → m'.nodes ≡ m.nodes → m'.view.slots ≡ (if answer then slots_with m.view.slots key None else m.view.slots) → answer ≡ true → IsTied table (locked s' m' claims)
-tied_taken table s s' m m' claims key seen cause may unlinked answer tied is linked there told accepted same_table nodes slots found =
-    tied_unlinked table s s' m m' claims seen cause tied (linked ∙ there) (MatchBool-at_true _ _ (sym told ∙ linked ∙ there) accepted) same_table nodes
+pub tied_taken : (table : TableId) (s s' : TreeLog) (m m' : MasterState) (claims : List ℕ) (key seen : Key) (cause : Option Refusal) (answer : Bool) → IsTied table s m claims → seen ≡ key →
+    is_linked s.tree seen ≡ true → IsAccepted s s' cause (Unlink seen) →
+    m'.table ≡ m.table → m'.nodes ≡ m.nodes → m'.view.slots ≡ (if answer then slots_with m.view.slots key None else m.view.slots) → answer ≡ true → IsTied table s' m' claims
+tied_taken table s s' m m' claims key seen cause answer tied is linked accepted same_table nodes slots found =
+    tied_unlinked table s s' m m' claims seen cause tied linked accepted same_table nodes
     (slots ∙ ap (λ b. if b then slots_with m.view.slots key None else m.view.slots) found ∙ ap (λ k. slots_with m.view.slots k None) (sym is))

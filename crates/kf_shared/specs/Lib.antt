@@ -1,10 +1,12 @@
 pub mod Agreement
 pub mod Noted
+pub mod Links
 pub mod Locked
 pub mod Removal
 pub mod Receipts
 pub mod Hiding
 pub mod Sections
 pub mod Running
+pub mod LookUps
 pub mod Finding
 pub mod Lending

@@ -17,23 +17,26 @@ use Rattle.kf_words.specs.declared.note.Note.{Note}
 use Rattle.kf_words.specs.Notes.{history_of}
 use Rattle.kf_tree.specs.SlotMarks.{SameMarks}
 use Rattle.kf_shared.specs.Agreement.{HasNodes}
+use Rattle.kf_looks.specs.declared.view.Link.{Link}
 use Rattle.kf_shared.specs.Noted.{IsNoted}
 
--- the tree with its commands, the Master of the words, and by slot the generation that was last claimed
+-- the tree with its commands, all links that were made for look-ups, the Master of the words, and by slot the
+-- generation that was last claimed
 pub record Locked : Type 0 where
   pub state : TreeLog
+  pub links : List Link
   pub master : MasterState
   pub claims : List ℕ
 
 -- the Master and the claims are those of the tree, whose root has slot 0
-pub record IsTied (table : TableId) (s : Locked) : Type 0 where
-  pub same_table : s.master.table ≡ table
-  pub root : s.state.root.slot ≡ 0
-  pub marks : SameMarks s.master.view.slots s.state.tree
-  pub nodes : HasNodes s.master.nodes s.state.tree
-  pub slots : length s.master.view.slots ≡ length s.state.tree
-  pub all_nodes : length s.master.nodes ≡ length s.state.tree
-  pub claims : length s.claims ≡ length s.state.tree
+pub record IsTied (table : TableId) (s : TreeLog) (m : MasterState) (claimed : List ℕ) : Type 0 where
+  pub same_table : m.table ≡ table
+  pub root : s.root.slot ≡ 0
+  pub marks : SameMarks m.view.slots s.tree
+  pub nodes : HasNodes m.nodes s.tree
+  pub slots : length m.view.slots ≡ length s.tree
+  pub all_nodes : length m.nodes ≡ length s.tree
+  pub claims : length claimed ≡ length s.tree
 
 -- the history that the Master has seen, which is all of it
 abbrev pub history : Locked → List Note
@@ -47,7 +50,7 @@ IsToldBy s notes = IsNoted s.state s.claims notes
 -- the same keys, and tree, claims and stored commands are those of the whole history
 pub record IsWhole (table : TableId) (s : Locked) : Type 0 where
   pub kept : IsKept s.state
-  pub tied : IsTied table s
+  pub tied : IsTied table s.state s.master s.claims
   pub told : IsToldBy s (history s)
 
 -- one note came next in the history

@@ -19,6 +19,7 @@ ghost use Rattle.kf_words.specs.Made.{WasABreakThenWake};
 ghost use Rattle.kf_words.specs.Runs.{WasAHide, WasAShow};
 ghost use Rattle.kf_live.specs.Live.{Say};
 ghost use Rattle.kf_live.specs.Lookers.{links_seen};
+ghost use Rattle.kf_shared.specs.LookUps.{IsLedInRun};
 ghost use Rattle.kf_shared.specs.Locked.{IsWhole, Adds, Created, CreateRefused, BornLowest, move_cause, IsHoldOfNode, HoldRefused, Unchanged, UnlinkDone, UnlinkRefused, is_claimed};
 ghost use Rattle.kf_shared.specs.Hiding.{hold_cause, HideRefused, ShowDone, ShowNoted};
 ghost use Rattle.kf_shared.specs.Removal.{IsNew, AreHolds, DoomHolds, DoomDone, DoomMarked, DoomNoted, SelfDoomNoted, CameAfter, SawItsDoom, DoomRefused, SelfRemovalRefused};
@@ -53,20 +54,25 @@ impl<'a, N: Naming> Model for Editor<'a, N> {
 impl<'a, N: Naming> Editor<'a, N> {
     /// The tree with its stored commands. What holds whenever the lock is got is said here: the tree is
     /// lawful and the replay of its commands, and the words name the same linked, activated and doomed keys.
+    /// Each time that a name was published, look-ups led as a tree of the run has it.
     pub fn state(&self) -> &State
         ensures same { result.now ≡ self.now.state }
         ensures whole { IsWhole N.table self.now }
+        ensures led { IsLedInRun self.now }
     {
         self.guard.state()
     }
 
     /// A reader of names without the lock, which is informed of all that the tree says now: none of its
-    /// look-ups goes back behind that.
+    /// look-ups goes back behind that. Each finds what a tree of the one run has
+    /// ([`look_ups_are_of_run`](crate::look_ups_are_of_run)).
     ///
     /// Refusal: NoMemory, if the words of look-ups can have no further owner.
     pub fn looker(&mut self) -> Result<Lookup, Refusal>
         ensures told { IfOk result
             (λ looker. 0 < looker.slots → Say (links_seen looker) self.old.state.tree) }
+        ensures seen { IfOk result
+            (λ looker. 0 < looker.slots → links_seen looker ≡ self.old.links) }
         ensures root { IfOk result (λ looker. looker.root ≡ self.old.state.root) }
         ensures same { self.new ≡ self.old }
         ensures refused { IfErr result (λ refusal. refusal ≡ refusal_of.NoMemory) }

@@ -1,4 +1,5 @@
 //! What holds of the running tree and of all who call into it.
+ghost use Rattle.kf_shared.specs.LookUps.{LookUpsStart, LookUpsAreOfRun, LookUpsGoOn};
 ghost use Rattle.kf_shared.specs.Running.{StartsWell, IsReplay, IsOfHistory, TreeAgrees, StartsLive, TakenWhileLive, RunsLinked, MarkedForGood, RemovedForGood, PartedForGood, HiddenIsStill, HeldNotGiven, HeldIsLast, GoneForGood};
 
 /// What holds over every run of atomic steps of any number of seats, in any order, whenever at its end the
@@ -33,4 +34,18 @@ pub fn running_tree()
     ensures held_not_given { HeldNotGiven }
     ensures held_is_last { HeldIsLast }
     ensures gone_for_good { GoneForGood }
+{}
+
+/// What holds of all that look-ups have seen, in any state of their words that their rule allows, whenever the
+/// tree lock is free and these are the words of its tree. It does nothing: its clauses say what follows from
+/// what the lock keeps.
+///
+/// A look-up finds what a tree of the one run has: there is a beginning of the history, and in the tree that it
+/// made the path leads to the node that was found, live and of the kind that was found. The state that a command
+/// passes through while it changes several nodes is no such tree, so no look-up finds it. What the same
+/// looker finds later is of a later tree, or of the same one.
+pub fn look_ups_are_of_run()
+    ensures start { LookUpsStart }
+    ensures of_run { LookUpsAreOfRun }
+    ensures go_on { LookUpsGoOn }
 {}

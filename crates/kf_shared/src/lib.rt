@@ -38,7 +38,7 @@ mod unlinking;
 pub use by_path::PathHolder;
 pub use draining::Draining;
 pub use editor::Editor;
-pub use laws::running_tree;
+pub use laws::{look_ups_are_of_run, running_tree};
 pub use locked::Locked;
 pub use naming::Naming;
 pub use reader::Reader;

@@ -13,6 +13,7 @@ ghost use Rattle.kf_words.specs.Nodes.{KeepsNodes, IsVacant, UnlinkAnswer, WasPi
 ghost use Rattle.kf_words.specs.Made.{WereLoaded};
 ghost use Rattle.kf_live.specs.Live.{Say};
 ghost use Rattle.kf_live.specs.Lookers.{links_seen};
+ghost use Rattle.kf_shared.specs.LookUps.{IsLedInRun};
 ghost use Rattle.kf_shared.specs.Locked.{IsWhole, Adds, Created, CreateRefused, BornLowest, move_cause, IsHoldOfNode, HoldRefused, Unchanged, UnlinkDone, UnlinkRefused, is_claimed, was_given};
 
 use crate::marking::rise_each;
@@ -52,15 +53,21 @@ impl<N: Naming> Drop for Locked<N> {
 impl<N: Naming> Model for Locked<N> {
     ghost use Rattle.kf_words.specs.Notes.{history_of};
     ghost use Rattle.kf_shared.specs.Locked.{Locked, IsTied};
+    ghost use Rattle.kf_shared.specs.Links.{AreOfRun};
     ghost use Rattle.kf_shared.specs.Noted.{IsNoted};
 
     ghost Value = { Locked };
 
-    ghost view = { λ s. record { state = s.state; master = s.master; claims = s.claims.items } };
+    ghost view = { λ s. record {
+      state = s.state.log;
+      links = s.state.links;
+      master = s.master;
+      claims = s.claims.items;
+    } };
 
-    ghost invariant = { λ s. IsTied N.table
-        (record { state = s.state; master = s.master; claims = s.claims.items })
-        × IsNoted s.state s.claims.items (history_of s.master.seen) };
+    ghost invariant = { λ s. IsTied N.table s.state.log s.master s.claims.items
+        × (IsNoted s.state.log s.claims.items (history_of s.master.seen)
+        × AreOfRun s.state.log.root s.state.links (history_of s.master.seen)) };
 }
 
 /// Puts the claim of a key into the claims by slot. False if it was there.
@@ -83,6 +90,7 @@ impl<N: Naming> Locked<N> {
     pub fn state(&self) -> &State
         ensures same { result.now ≡ self.now.state }
         ensures whole { IsWhole N.table self.now }
+        ensures led { IsLedInRun self.now }
     {
         let _ = self.state.root();
         self.state.state()
@@ -95,6 +103,8 @@ impl<N: Naming> Locked<N> {
     pub fn looker(&mut self) -> Result<Lookup, Refusal>
         ensures told { IfOk result
             (λ looker. 0 < looker.slots → Say (links_seen looker) self.old.state.tree) }
+        ensures seen { IfOk result
+            (λ looker. 0 < looker.slots → links_seen looker ≡ self.old.links) }
         ensures root { IfOk result (λ looker. looker.root ≡ self.old.state.root) }
         ensures same { self.new ≡ self.old }
         ensures refused { IfErr result (λ refusal. refusal ≡ refusal_of.NoMemory) }

@@ -10,7 +10,7 @@ use std::marker::Brand;
 
 /// Notes the command that was stored last.
 pub(crate) fn note_last(master: &mut Master, state: &LiveTree)
-    ensures { WasNoted (last_stored state.now.commands) master.old master.new }
+    ensures { WasNoted (last_stored state.now.log.commands) master.old master.new }
 {
     master.note::<Brand, LiveTree>(state);
 }
@@ -31,7 +31,7 @@ pub(crate) fn note_compaction(master: &mut Master)
 
 /// Notes that this tree was made.
 pub(crate) fn note_opening(master: &mut Master, state: &LiveTree)
-    ensures { WasNoted (Began (length state.now.tree) state.now.root) master.old master.new }
+    ensures { WasNoted (Began (length state.now.log.tree) state.now.log.root) master.old master.new }
 {
     master.note::<Brand, LiveTree>(state);
 }

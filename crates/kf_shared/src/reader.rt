@@ -1,6 +1,7 @@
 //! The guard of those who only look.
 ghost use Rattle.std.specs.Prelude.{◌≡◌};
 ghost use Rattle.kf_shared.specs.Locked.{IsWhole};
+ghost use Rattle.kf_shared.specs.LookUps.{IsLedInRun};
 
 use crate::locked::Locked;
 use crate::naming::Naming;
@@ -29,6 +30,7 @@ impl<N: Naming> Reader<'_, N> {
     pub fn state(&self) -> &State
         ensures same { result.now ≡ self.now.state }
         ensures whole { IsWhole N.table self.now }
+        ensures led { IsLedInRun self.now }
     {
         self.guard.state()
     }

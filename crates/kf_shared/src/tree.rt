@@ -5,6 +5,7 @@ ghost use Rattle.kf_core.specs.Limits.{most_slots};
 ghost use Rattle.kf_tree.specs.TreeLogs.{IsNew};
 ghost use Rattle.kf_words.specs.Steps.{opened};
 ghost use Rattle.kf_shared.specs.Locked.{IsWhole, history};
+ghost use Rattle.kf_shared.specs.LookUps.{IsLedInRun};
 ghost use Rattle.kf_shared.specs.Sections.{IsTaken};
 
 use crate::editor::Editor;
@@ -45,15 +46,21 @@ impl Drop for NewTree {
 impl Model for NewTree {
     ghost use Rattle.kf_words.specs.Notes.{history_of};
     ghost use Rattle.kf_shared.specs.Locked.{Locked, IsTied};
+    ghost use Rattle.kf_shared.specs.Links.{AreOfRun};
     ghost use Rattle.kf_shared.specs.Noted.{IsNoted};
 
     ghost Value = { Locked };
 
-    ghost view = { λ s. record { state = s.state; master = s.master; claims = s.claims.items } };
+    ghost view = { λ s. record {
+      state = s.state.log;
+      links = s.state.links;
+      master = s.master;
+      claims = s.claims.items;
+    } };
 
-    ghost invariant = { λ s. IsTied s.master.table
-        (record { state = s.state; master = s.master; claims = s.claims.items })
-        × IsNoted s.state s.claims.items (history_of s.master.seen) };
+    ghost invariant = { λ s. IsTied s.master.table s.state.log s.master s.claims.items
+        × (IsNoted s.state.log s.claims.items (history_of s.master.seen)
+        × AreOfRun s.state.log.root s.state.links (history_of s.master.seen)) };
 }
 
 /// No slot's node is claimed: generation 0 is that of no node.
@@ -204,6 +211,7 @@ impl<N: Naming> SharedTree<N> {
     /// Context: sleeps; takes the tree's lock, which its caller must not have.
     pub fn edit<R: Wait>(&self, rt: &R) -> Editor<'_, N>
         ensures whole { IsWhole N.table result }
+        ensures led { IsLedInRun result }
         ensures taken { IsTaken (history result) }
     {
         let mut editor = Editor {

@@ -77,6 +77,7 @@ module _ (table : TableId) where
   abbrev locked : List StepKind → Table → Option Record → List Command → List ℕ → Locked
   locked steps u o commands claims = record {
     state = record { root = root_key; tree = tree_with o; commands = commands; ready = None };
+    links = [];
     master = record {
       table = table;
       view = master_in u.views;

@@ -4,4 +4,4 @@ use Rattle.kf_shared.proofs.noting.note_opening.Given as goal
 
 -- the note: the slots and the root of the tree that the call is given
 abbrev pub ghosts-note : goal.ghosts-note
-ghosts-note a = record { note = Began (length a.told.now.tree) a.told.now.root }
+ghosts-note a = record { note = Began (length a.told.now.log.tree) a.told.now.log.root }

@@ -4,8 +4,8 @@ use mathlib.Core.List.{IsPrefix}
 use Rattle.kf_words.specs.declared.note.Note.TheVariants.{LockReleased}
 use Rattle.kf_words.specs.Notes.{history_of}
 use Rattle.kf_shared.specs.Locked.{Locked, history}
-use Rattle.kf_shared.proofs.Hearing.{held_released, was_closed}
-use Rattle.kf_shared.proofs.Told.{held_master}
+use Rattle.kf_shared.proofs.Hearing.{was_closed}
+use Rattle.kf_shared.proofs.Told.{held_master, held_released}
 use Rattle.kf_shared.proofs.locked.Locked.close_call.Goals as goal
 
 pub invariant_of-self : goal.invariant_of-self

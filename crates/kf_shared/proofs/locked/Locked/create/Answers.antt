@@ -5,18 +5,17 @@ use Rattle.kf_core.specs.declared.command.Command.TheVariants.{Create}
 use Rattle.kf_words.specs.declared.note.Note.TheVariants.{Did}
 use Rattle.kf_words.specs.Notes.{history_of}
 use Rattle.kf_words.specs.Nodes.{MasterState, MayBear}
-use Rattle.kf_shared.specs.Noted.{IsNoted}
 use Rattle.kf_words.specs.declared.view.MasterView.{MasterView}
 use Rattle.kf_shared.specs.Locked.{Locked, BornLowest}
 use Rattle.kf_shared.proofs.Ties.{vacant_next, born_marks, born_lowest, tied_born, tied_born_live, tied_master}
-use Rattle.kf_shared.proofs.Told.{keeps_all, tied_words, held_master, held_state, adds_last, noted_last}
+use Rattle.kf_shared.proofs.Told.{AreTold, keeps_all, tied_words, held_master, held_state, adds_last, noted_last}
 use Rattle.kf_shared.proofs.Creating.{vacant_at}
 use Rattle.kf_shared.proofs.locked.Locked.create.Goals as goal
 
 pub create_under-requires-clause-vacant : goal.create_under-requires-clause-vacant
 create_under-requires-clause-vacant g c =
-    vacant_at c.self.inside.state c.free_key-next.result c.in-Some-next.key c.in-Some-next.is
-    (vacant_next g.N.Naming.table c.self.inside.state c.self.inside.master c.free_key-next.new.self c.self.inside.claims.items c.free_key-next.result
+    vacant_at c.self.inside.state.log c.free_key-next.result c.in-Some-next.key c.in-Some-next.is
+    (vacant_next g.N.Naming.table c.self.inside.state.log c.self.inside.master c.free_key-next.new.self c.self.inside.claims.items c.free_key-next.result
     c.self.invariant.0 c.root.ensures.kept c.free_key-next.ensures.kept c.free_key-next.ensures.may_bear)
 
 -- what the search found, it found also when the command was noted
@@ -37,12 +36,12 @@ invariant_of-self-then-live g c =
     let claims = c.self.inside.claims.items in
     let kept = c.free_key-next.ensures.kept in
     let accepted = c.in_ok-create_under.ensures.accepted in (
-      tied_born_live g.N.Naming.table s c.create_under.new.self m1 m1 c.born.new.self claims
+      tied_born_live g.N.Naming.table s.log c.create_under.new.self.log m1 m1 c.born.new.self claims
           c.free_key-next.result c.in-Some-next.key c.args.parent c.args.name.now c.args.node c.args.live _
-          (tied_words g.N.Naming.table s m0 m1 claims (tied_master g.N.Naming.table s m m0 claims c.self.invariant.0 kept) c.note_last.ensures.words) c.root.ensures.kept (keeps_all m1)
+          (tied_words g.N.Naming.table s.log m0 m1 claims (tied_master g.N.Naming.table s.log m m0 claims c.self.invariant.0 kept) c.note_last.ensures.words) c.root.ensures.kept (keeps_all m1)
           (bears m0 m1 c.free_key-next.result c.free_key-next.ensures.may_bear c.note_last.ensures.words.view) c.in-Some-next.is accepted c.born.ensures.table c.born.ensures.nodes c.born.ensures.slots
           c.activate.new.self c.if-live.true c.activate.ensures.table c.activate.ensures.nodes c.activate.ensures.slots,
-      noted_last s c.create_under.new.self m0 m1 c.activate.new.self _ _ accepted c.note_last.ensures (c.activate.ensures.history ∙ c.born.ensures.history) claims (subst (IsNoted s claims) (sym kept.history) c.self.invariant.1),
+      noted_last s c.create_under.new.self m0 m1 c.activate.new.self _ _ accepted c.note_last.ensures (c.activate.ensures.history ∙ c.born.ensures.history) claims (subst (AreTold s claims) (sym kept.history) c.self.invariant.1) c.in_ok-create_under.ensures.told,
     )
 
 pub invariant_of-self-else-live : goal.invariant_of-self-else-live
@@ -54,12 +53,12 @@ invariant_of-self-else-live g c =
     let claims = c.self.inside.claims.items in
     let kept = c.free_key-next.ensures.kept in
     let accepted = c.in_ok-create_under.ensures.accepted in (
-      tied_born g.N.Naming.table s c.create_under.new.self m1 m1 c.born.new.self claims
+      tied_born g.N.Naming.table s.log c.create_under.new.self.log m1 m1 c.born.new.self claims
           c.free_key-next.result c.in-Some-next.key c.args.parent c.args.name.now c.args.node c.args.live _
-          (tied_words g.N.Naming.table s m0 m1 claims (tied_master g.N.Naming.table s m m0 claims c.self.invariant.0 kept) c.note_last.ensures.words) c.root.ensures.kept (keeps_all m1)
+          (tied_words g.N.Naming.table s.log m0 m1 claims (tied_master g.N.Naming.table s.log m m0 claims c.self.invariant.0 kept) c.note_last.ensures.words) c.root.ensures.kept (keeps_all m1)
           (bears m0 m1 c.free_key-next.result c.free_key-next.ensures.may_bear c.note_last.ensures.words.view) c.in-Some-next.is accepted c.born.ensures.table c.born.ensures.nodes c.born.ensures.slots
           c.if-live.false,
-      noted_last s c.create_under.new.self m0 m1 c.born.new.self _ _ accepted c.note_last.ensures (c.born.ensures.history) claims (subst (IsNoted s claims) (sym kept.history) c.self.invariant.1),
+      noted_last s c.create_under.new.self m0 m1 c.born.new.self _ _ accepted c.note_last.ensures (c.born.ensures.history) claims (subst (AreTold s claims) (sym kept.history) c.self.invariant.1) c.in_ok-create_under.ensures.told,
     )
 
 pub returns-else-live-clause-lowest : goal.returns-else-live-clause-lowest

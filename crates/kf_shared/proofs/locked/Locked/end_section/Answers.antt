@@ -1,4 +1,4 @@
-use Rattle.kf_shared.proofs.Hearing.{held_released}
+use Rattle.kf_shared.proofs.Told.{held_released}
 use Rattle.kf_shared.proofs.locked.Locked.end_section.Goals as goal
 
 pub invariant_of-self : goal.invariant_of-self

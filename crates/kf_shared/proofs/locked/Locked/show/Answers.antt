@@ -18,8 +18,8 @@ invariant_of-self g c =
     let m = c.self.inside.master in
     let m1 = c.note_last.new.master in
     let claims = c.self.inside.claims.items in (
-      tied_shown g.N.Naming.table s s' m1 claims c.key-key.result None c.show.result (tied_words g.N.Naming.table s m m1 claims c.self.invariant.0 c.note_last.ensures.words) c.show.ensures.accepted,
-      noted_last s s' m m1 m1 None _ (MatchBool-at_true _ _ c.if-show.true c.show.ensures.accepted) c.note_last.ensures refl claims c.self.invariant.1,
+      tied_shown g.N.Naming.table s.log s'.log m1 claims c.key-key.result None true (tied_words g.N.Naming.table s.log m m1 claims c.self.invariant.0 c.note_last.ensures.words) (MatchBool-at_true _ _ c.if-show.true c.show.ensures.accepted),
+      noted_last s s' m m1 m1 None _ (MatchBool-at_true _ _ c.if-show.true c.show.ensures.accepted) c.note_last.ensures refl claims c.self.invariant.1 c.show.ensures.told,
     )
 
 pub invariant_of-self-else-show : goal.invariant_of-self-else-show
@@ -33,7 +33,7 @@ returns-then-show-clause-noted g c =
     let key : Key = c.args.hidden.key in
     let m1 = c.note_last.new.master in
     let hidden : true ≡ hidden_in old.state.tree key =
-    sym c.if-show.true ∙ c.show.ensures.told ∙ ap (λ (l : Locked). hidden_in l.state.tree c.key-key.result) c.self.view_is ∙ ap (hidden_in old.state.tree) c.key-key.ensures.value in
+    sym c.if-show.true ∙ c.show.ensures.was_hidden ∙ ap (λ (l : Locked). hidden_in l.state.tree c.key-key.result) c.self.view_is ∙ ap (hidden_in old.state.tree) c.key-key.ensures.value in
     let added : history_of m1.seen ≡ history_of old.master.seen ++ Did (Show key) ∷ [] =
     adds_last s c.show.new.self c.self.inside.master m1 m1 None _ (MatchBool-at_true _ _ c.if-show.true c.show.ensures.accepted) c.note_last.ensures refl
     ∙ ap (λ (l : Locked). history_of l.master.seen ++ Did (Show c.key-key.result) ∷ []) c.self.view_is

@@ -1,5 +1,4 @@
-use Rattle.kf_shared.proofs.Hearing.{held_released}
-use Rattle.kf_shared.proofs.Told.{held_master}
+use Rattle.kf_shared.proofs.Told.{held_master, held_released}
 use Rattle.kf_shared.proofs.locked.Locked.unlink_alone.Goals as goal
 
 pub invariant_of-self-2 : goal.invariant_of-self-2
