@@ -9,7 +9,7 @@ struct fan {
 
 static struct kt_live *live;
 
-/* Runs in the thread that reads. Several may run at once. */
+/* Runs in the thread that reads. Several may run at the same time. */
 static int64_t show_speed(void *device, const struct kt_attribute *attribute, char *page)
 {
     const struct fan *fan = device;

@@ -5,7 +5,7 @@
 #include <stdio.h>
 
 struct fan {
-    atomic_int target; /* callbacks run at once, so what they change is atomic or under a lock */
+    atomic_int target; /* several callbacks may run, so what they change is atomic or under a lock */
 };
 
 static struct kt_live *live;
