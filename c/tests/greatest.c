@@ -85,7 +85,7 @@ int main(void)
     TRY(kt_remove(&tree, key), 1);
     TRY(kt_enter(&hold), -ENODEV);
     TRY(kt_create_dir(&tree, root, "more", 4, true, &key), -ENOSPC);
-    TRY(kt_clear(&hold), 1);
+    TRY(kt_clear(&hold), 0);
     TRY(kt_create_dir(&tree, root, "more", 4, true, &key), 0);
     TRY(key.slot, KT_SLOTS_MAX - 1);
     TRY(key.generation, 3);
