@@ -10,6 +10,8 @@ mod crowd;
 #[cfg(test)]
 mod fixtures;
 #[cfg(test)]
+mod lock_tests;
+#[cfg(test)]
 mod lookers;
 #[cfg(test)]
 mod refused;
