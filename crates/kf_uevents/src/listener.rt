@@ -1,12 +1,13 @@
 //! A listener reads events on from where it was, and sleeps until there are more.
-ghost use Rattle.std.specs.Prelude.{◌≡◌, List};
+ghost use Rattle.std.specs.Prelude.{◌≡◌, ◌<◌, List};
+ghost use Rattle.std.specs.Sync.RwLock.{read_guard_value};
 ghost use Rattle.kf_uevents.specs.declared.uevent.Uevent.{Uevent};
-ghost use Rattle.kf_uevents.specs.Logs.{IsLogOf, IsReading, next_after};
+ghost use Rattle.kf_uevents.specs.Logs.{IsLogOf, IsReading, next_after, told_count};
 
 use crate::log::{Reading, UeventLog};
 use kf_notify::Post;
 use std::marker::Model;
-use std::sync::{RwLock, Wait};
+use std::sync::{RwLock, RwLockReadGuard, Wait};
 
 /// Reads the events of a list, each once. To a contract it is the number of the event that it reads next.
 ///
@@ -27,16 +28,24 @@ impl Model for Listener {
     ghost view = { λ s. s.next };
 }
 
-// Sleeps until an event has the number. It takes the slot's number first, and then looks at the list. So an
-// event that is added after the look changes the number that it sleeps on, and no wake is lost:
-// `tests/models/wake.py` tries every order of these steps.
-fn wait_for<R: Wait>(rt: &R, log: &RwLock<UeventLog>, post: &mut Post, number: u64) {
+// Sleeps until an event has the number, and locks the list for reading. It takes the slot's number first, and
+// then looks at the list. So an event that is added after the look changes the number that it sleeps on, and
+// no wake is lost: `tests/models/wake.py` tries every order of these steps.
+fn wait_for<'a, R: Wait>(
+    rt: &R,
+    log: &'a RwLock<UeventLog>,
+    post: &mut Post,
+    number: u64,
+) -> RwLockReadGuard<'a, UeventLog>
+    ensures some { number < told_count (read_guard_value result) }
+{
     for _ in rt.forever() {
         let seen = post.now();
-        let count = log.read(rt).count();
-        if number < count {
-            return;
+        let guard = log.read(rt);
+        if number < guard.count() {
+            return guard;
         }
+        drop(guard);
         post.rest(rt, seen);
     }
     unreachable!()
@@ -65,14 +74,22 @@ impl Listener {
         reading
     }
 
-    /// Sleeps until there is something to read, an event or a loss. It may never return. No clause says
-    /// that there is something to read: what the list has is known only while its lock is held. Tests show
-    /// it.
+    /// Sleeps until there is something to read, an event or a loss. Returns the list, locked for reading:
+    /// [`Listener::read`] finds the event or the loss there. It may never return. No clause says that it
+    /// wakes: tests show it.
     ///
-    /// Context: sleeps; takes the list's lock, which its caller must not have.
-    pub fn wait<R: Wait>(&mut self, rt: &R, log: &RwLock<UeventLog>)
+    /// Drop the guard before you lock the list again, lock the tree or wait: a thread that reports an event
+    /// has the tree's lock, and waits for the list's.
+    ///
+    /// Context: sleeps; takes the list's lock, which its caller must not have, and returns with it.
+    pub fn wait<'a, R: Wait>(
+        &mut self,
+        rt: &R,
+        log: &'a RwLock<UeventLog>,
+    ) -> RwLockReadGuard<'a, UeventLog>
+        ensures some { self.new < told_count (read_guard_value result) }
         ensures same { self.new ≡ self.old }
     {
-        wait_for(rt, log, &mut self.post, self.next);
+        wait_for(rt, log, &mut self.post, self.next)
     }
 }

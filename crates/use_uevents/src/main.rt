@@ -51,8 +51,8 @@ fn listens<R: Wait + Print>(
     listener: &mut Listener,
 ) -> anyhow::Result<()> {
     for _ in rt.forever() {
-        listener.wait(rt, log); // asleep, without a lock
-        if let Reading::Next { event, then: _ } = listener.read(&*log.read(rt)) {
+        let list = listener.wait(rt, log); // sleeps without a lock, and returns the list locked
+        if let Reading::Next { event, then: _ } = listener.read(&*list) {
             print(rt, event)?;
             if event.action == Action::Remove && event.path.as_slice() == b"/bus".as_slice() {
                 return Ok(());

@@ -134,8 +134,8 @@ impl Seen {
 /// Reads until the root is reported as changed, which comes last.
 fn listens<R: Wait>(rt: &R, log: &RwLock<UeventLog>, listener: &mut Listener, seen: &mut Seen) {
     for _ in rt.forever() {
-        listener.wait(rt, log);
-        match listener.read(&*log.read(rt)) {
+        let guard = listener.wait(rt, log);
+        match listener.read(&*guard) {
             Reading::Next { event, then: _ } => {
                 if event.action == Action::Change {
                     return;

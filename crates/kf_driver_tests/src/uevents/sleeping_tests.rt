@@ -25,10 +25,11 @@ fn reads<R: Wait>(
 ) -> u64 {
     let mut events = 0u64;
     for _ in 0..EVENTS {
-        listener.wait(rt, log);
-        if matches!(listener.read(&*log.read(rt)), Reading::Next { .. }) {
+        let guard = listener.wait(rt, log);
+        if matches!(listener.read(&*guard), Reading::Next { .. }) {
             events = events.saturating_add(1);
         }
+        drop(guard);
         turns.fetch_add(1, Ordering::SeqCst);
     }
     events

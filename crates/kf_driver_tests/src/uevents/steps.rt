@@ -126,7 +126,7 @@ fn is_right<N: Naming, R: Wait>(
 ) -> bool {
     match step {
         Step::Waits => {
-            listener.wait(rt, log);
+            drop(listener.wait(rt, log));
             true
         }
         Step::Removes(key) => removes(rt, tree, log, key).is_ok(),
