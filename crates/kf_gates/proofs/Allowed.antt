@@ -5,12 +5,12 @@ use lib.ListN.{get_elem?}
 use Rattle.atomic_table.specs.Table.{step, Allows, Splits, keeps}
 use Rattle.kf_gates.specs.declared.view.GatePlan.{GatePlan}
 use Rattle.kf_gates.specs.declared.view.GateView.{GateView}
-use Rattle.kf_gates.specs.declared.view.GateView.TheVariants.{Keeps, Outside, Counted, OneTooMany, Knocking, Inside, Turned, Broken, Restored}
-use Rattle.kf_gates.specs.Rule.{Table, Kept, gate_word, due_from}
+use Rattle.kf_gates.specs.declared.view.GateView.TheVariants.{Keeps, Outside, Left, Counted, OneTooMany, Knocking, Inside, Turned, Broken, Restored}
+use Rattle.kf_gates.specs.Rule.{Table, Kept, IsPass, gate_word, due_from}
 use Rattle.kf_gates.specs.Laws.{Has, IsOver, InsideOnLast, ClosedIsEmpty, ShutLetsNobodyIn, OpenLetsIn}
 use Rattle.kf_gates.specs.Runs.{CountsIn, MayUncount, one_more, one_less}
-use Rattle.kf_gates.specs.Steps.{Seated, after_count, looked, next_plan, pass_made, scanned, shut_plan, stepped_off, uncounted, MakesKnock, MakesLook, MakesLeave, MakesBreak, MakesRestore, MakesCount, MakesUncount, MakesShut, MakesScan, MakesOpening, MakesSleepCount}
-use Rattle.kf_gates.proofs.Keeping.{half, odd_of, even_of, knock_kept, look_kept, leave_kept, break_kept, restore_kept, count_kept, uncount_kept, pass_kept, shut_kept, scan_kept, open_kept, sleep_kept, nobody_inside}
+use Rattle.kf_gates.specs.Steps.{Seated, after_count, looked, next_plan, pass_made, scanned, shut_plan, stepped_off, uncounted, MakesKnock, MakesLook, MakesLookBack, MakesLeave, MakesBreak, MakesRestore, MakesCount, MakesUncount, MakesShut, MakesScan, MakesOpening, MakesSleepCount}
+use Rattle.kf_gates.proofs.Keeping.{half, odd_of, even_of, knock_kept, look_kept, look_back_kept, leave_kept, break_kept, restore_kept, count_kept, uncount_kept, pass_kept, shut_kept, scan_kept, open_kept, sleep_kept, nobody_inside}
 
 abbrev no_plan : GatePlan
 no_plan = record { number = 0; shut = true; seen = 0; found = 0; spare = false }
@@ -18,6 +18,7 @@ no_plan = record { number = 0; shut = true; seen = 0; found = 0; spare = false }
 abbrev plan_of : GateView → GatePlan
 plan_of (Keeps p) = p
 plan_of (Outside f) = no_plan
+plan_of (Left f) = no_plan
 plan_of Counted = no_plan
 plan_of (OneTooMany f) = no_plan
 plan_of (Knocking k) = no_plan
@@ -29,6 +30,7 @@ plan_of (Restored k n) = no_plan
 abbrev lane_of : GateView → ℕ
 lane_of (Keeps p) = 0
 lane_of (Outside f) = 0
+lane_of (Left f) = 0
 lane_of Counted = 0
 lane_of (OneTooMany f) = 0
 lane_of (Knocking k) = k
@@ -40,6 +42,7 @@ lane_of (Restored k n) = k
 abbrev number_of : GateView → ℕ
 number_of (Keeps p) = 0
 number_of (Outside f) = 0
+number_of (Left f) = 0
 number_of Counted = 0
 number_of (OneTooMany f) = 0
 number_of (Knocking k) = 0
@@ -52,15 +55,33 @@ number_of (Restored k n) = 0
 seated_as : (t : Table) (id : ℕ) (x v : GateView) → x ≡ v → get_elem? t.views id ≡ some x → Has t id v
 seated_as t id x v is at = subst (λ (y : GateView). get_elem? t.views id ≡ some y) is at
 
-pub knock_allowed : (lanes slots id : ℕ) (me : Seated) (k : ℕ) → (f : ℕ) × (me.0 ≡ Outside f) → k < lanes
+pub knock_allowed : (lanes slots id : ℕ) (me : Seated) (k : ℕ) → IsPass me.0 → k < lanes
     → Allows (Kept lanes) slots id me (8 * k + 8) one_more (MakesKnock (step slots (8 * k + 8) 1 0 none) me)
-knock_allowed lanes slots id me k outside inside t r _ at small =
-    (Knocking k, keeps, tt, knock_kept lanes t r id k outside.0 (seated_as t id me.0 (Outside outside.0) outside.1 at) inside, λ lane is. ap Knocking (omega arith))
+knock_allowed lanes slots id me k pass inside t r _ at small =
+    (Knocking k, keeps, tt, knock_kept lanes t r id k me.0 at pass inside, λ lane is. ap Knocking (omega arith))
 
 pub look_allowed : (lanes slots id : ℕ) (me : Seated) (k : ℕ) → me.0 ≡ Knocking k → Allows (Kept lanes) slots id me 0 (λ n. n) (MakesLook (step slots 0 0 0 none) me)
 look_allowed lanes slots id me k knocking t r _ at small =
     let x : ℕ = get_or t.words 0 0 in
     (looked x k, keeps, tt, look_kept lanes t r id k (seated_as t id me.0 (Knocking k) knocking at), λ lane is. ap (looked x) (ap lane_of (sym knocking ∙ is)))
+
+-- a caller that steps off is outside
+pub off_outside : (k : ℕ) (v : GateView) → CountsIn k v → (f : ℕ) × (stepped_off v ≡ Outside f)
+off_outside k (Keeps p) counts = absurd counts
+off_outside k (Outside f) counts = absurd counts
+off_outside k (Left f) counts = absurd counts
+off_outside k Counted counts = absurd counts
+off_outside k (OneTooMany f) counts = absurd counts
+off_outside k (Knocking j) counts = absurd counts
+off_outside k (Inside j n) counts = (gate_word n false, refl)
+off_outside k (Turned j f) counts = (f, refl)
+off_outside k (Broken j n) counts = absurd counts
+off_outside k (Restored j n) counts = (gate_word n false, refl)
+
+pub look_back_allowed : (lanes slots id : ℕ) (me : Seated) → (f : ℕ) × (me.0 ≡ Outside f)
+    → Allows (Kept lanes) slots id me 0 (λ n. n) (MakesLookBack (step slots 0 0 0 none) me)
+look_back_allowed lanes slots id me outside t r _ at small =
+    (Left (get_or t.words 0 0), keeps, tt, look_back_kept lanes t r id outside.0 (seated_as t id me.0 (Outside outside.0) outside.1 at), λ before is. refl)
 
 pub leave_allowed : (lanes slots id : ℕ) (me : Seated) (k : ℕ) → CountsIn k me.0 → k < lanes
     → Allows (Kept lanes) slots id me (8 * k + 8) one_less (MakesLeave (step slots (8 * k + 8) 1 0 none) me)
@@ -86,9 +107,9 @@ restore_allowed lanes slots id me k here inside t r _ at small = (
   λ lane number is. let same = sym here.1 ∙ is in (λ i. Restored (lane_of (same i)) (number_of (same i))),
 )
 
-pub count_allowed : (lanes slots id : ℕ) (me : Seated) → (f : ℕ) × (me.0 ≡ Outside f) → Allows (Kept lanes) slots id me 2 one_more (MakesCount (step slots 2 1 0 none) me)
-count_allowed lanes slots id me outside t r _ at small =
-    (after_count (get_or t.words 2 0), keeps, tt, count_kept lanes t r id outside.0 (seated_as t id me.0 (Outside outside.0) outside.1 at), refl)
+pub count_allowed : (lanes slots id : ℕ) (me : Seated) → IsPass me.0 → Allows (Kept lanes) slots id me 2 one_more (MakesCount (step slots 2 1 0 none) me)
+count_allowed lanes slots id me pass t r _ at small =
+    (after_count (get_or t.words 2 0), keeps, tt, count_kept lanes t r id me.0 at pass, refl)
 
 pub uncount_allowed : (lanes slots id : ℕ) (me : Seated) → MayUncount me.0 → Allows (Kept lanes) slots id me 2 one_less (MakesUncount (step slots 2 1 0 none) me)
 uncount_allowed lanes slots id me may t r _ at small = (uncounted me.0, keeps, tt, uncount_kept lanes t r id me.0 at may, refl)

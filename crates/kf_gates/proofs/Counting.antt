@@ -3,8 +3,8 @@ use Rattle.std.proofs.Common.{◌≡◌, ℕ, zero, suc, ◌+◌, ◌<◌, ◌�
 use mathlib.Core.Option.{some, some-injective, some-ne-none}
 use lib.ListN.{get_elem?}
 use Rattle.kf_gates.specs.declared.view.GateView.{GateView}
-use Rattle.kf_gates.specs.declared.view.GateView.TheVariants.{Keeps, Outside, Counted, OneTooMany, Knocking, Inside, Turned, Broken, Restored}
-use Rattle.kf_gates.specs.Rule.{bit, counted_by, due_from, is_user, total, users}
+use Rattle.kf_gates.specs.declared.view.GateView.TheVariants.{Keeps, Outside, Left, Counted, OneTooMany, Knocking, Inside, Turned, Broken, Restored}
+use Rattle.kf_gates.specs.Rule.{IsPass, bit, counted_by, due_from, is_user, total, users}
 
 -- one seat's view changes
 pub total_set : (f : GateView → ℕ) (views : List GateView) (j : ℕ) (v w : GateView) → get_elem? views j ≡ some v → total f (set views j w) + f v ≡ total f views + f w
@@ -50,6 +50,7 @@ users_few lane views = total_few (λ v. bit (is_user lane v)) (λ v. bit_few (is
 pub counted_few : (v : GateView) → counted_by v ≤ 1
 counted_few (Keeps p) = bit_few p.spare
 counted_few (Outside f) = omega arith
+counted_few (Left f) = omega arith
 counted_few Counted = omega arith
 counted_few (OneTooMany f) = omega arith
 counted_few (Knocking k) = omega arith
@@ -61,6 +62,7 @@ counted_few (Restored k n) = omega arith
 pub due_counted : (v : GateView) → due_from v ≤ counted_by v
 due_counted (Keeps p) = omega arith
 due_counted (Outside f) = omega arith
+due_counted (Left f) = omega arith
 due_counted Counted = omega arith
 due_counted (OneTooMany f) = omega arith
 due_counted (Knocking k) = omega arith
@@ -68,3 +70,28 @@ due_counted (Inside k n) = omega arith
 due_counted (Turned k f) = omega arith
 due_counted (Broken k n) = omega arith
 due_counted (Restored k n) = omega arith
+
+-- what a pass counts for
+pub pass_nowhere : (v : GateView) → IsPass v → (lane : ℕ) → is_user lane v ≡ false
+pass_nowhere (Keeps p) pass lane = absurd pass
+pass_nowhere (Outside f) pass lane = refl
+pass_nowhere (Left f) pass lane = refl
+pass_nowhere Counted pass lane = absurd pass
+pass_nowhere (OneTooMany f) pass lane = absurd pass
+pass_nowhere (Knocking k) pass lane = absurd pass
+pass_nowhere (Inside k n) pass lane = absurd pass
+pass_nowhere (Turned k f) pass lane = absurd pass
+pass_nowhere (Broken k n) pass lane = absurd pass
+pass_nowhere (Restored k n) pass lane = absurd pass
+
+pub pass_counts : (v : GateView) → IsPass v → (counted_by v ≡ 0) × (due_from v ≡ 0)
+pass_counts (Keeps p) pass = absurd pass
+pass_counts (Outside f) pass = (refl, refl)
+pass_counts (Left f) pass = (refl, refl)
+pass_counts Counted pass = absurd pass
+pass_counts (OneTooMany f) pass = absurd pass
+pass_counts (Knocking k) pass = absurd pass
+pass_counts (Inside k n) pass = absurd pass
+pass_counts (Turned k f) pass = absurd pass
+pass_counts (Broken k n) pass = absurd pass
+pass_counts (Restored k n) pass = absurd pass

@@ -10,12 +10,12 @@ use Rattle.atomic_table.specs.Table.{opening}
 use Rattle.atomic_table.proofs.Lists.{at_set, at_snoc}
 use Rattle.kf_gates.specs.declared.view.GatePlan.{GatePlan}
 use Rattle.kf_gates.specs.declared.view.GateView.{GateView}
-use Rattle.kf_gates.specs.declared.view.GateView.TheVariants.{Keeps, Outside, Counted, OneTooMany, Knocking, Inside, Turned, Broken, Restored}
-use Rattle.kf_gates.specs.Rule.{Table, bit, gate_word, most_passes, is_user, is_inside, counted_by, due_from, total, users, NoneInside, Knows, Kept, opened}
+use Rattle.kf_gates.specs.declared.view.GateView.TheVariants.{Keeps, Outside, Left, Counted, OneTooMany, Knocking, Inside, Turned, Broken, Restored}
+use Rattle.kf_gates.specs.Rule.{Table, bit, gate_word, most_passes, IsPass, is_user, is_inside, counted_by, due_from, total, users, NoneInside, Knows, Kept, opened}
 use Rattle.kf_gates.specs.Laws.{Has, IsOver}
 use Rattle.kf_gates.specs.Runs.{CountsIn, MayUncount, one_more, one_less, moved, with_pass, new_words}
 use Rattle.kf_gates.specs.Steps.{after_count, looked, next_plan, pass_made, scanned, shut_plan, stepped_off, uncounted}
-use Rattle.kf_gates.proofs.Counting.{total_set, total_snoc, total_at, total_few, total_below, bit_none, users_few, counted_few, due_counted}
+use Rattle.kf_gates.proofs.Counting.{total_set, total_snoc, total_at, total_few, total_below, bit_none, users_few, counted_few, due_counted, pass_nowhere, pass_counts}
 
 -- what the gate's word says
 pub half : (b : Bool) (n x : ℕ) → x ≡ gate_word n b → x / 2 ≡ n
@@ -113,8 +113,9 @@ off_kept lanes t r id k v w seated counted nowhere c d outside inside mine =
     (λ lane other. counted lane ∙ apart k lane other ∙ sym (nowhere lane)))
     (λ shut lane less. none_stays lane t.views id w (outside lane) (r.still shut lane less)) mine (λ j x _ e. r.seats j x e)
 
-pub knock_kept : (lanes : ℕ) (t : Table) (r : Kept lanes t) (id k f : ℕ) → Has t id (Outside f) → k < lanes → Kept lanes (moved t (8 * k + 8) one_more id (Knocking k))
-knock_kept lanes t r id k f seated inside = on_kept lanes t r id k (Outside f) (Knocking k) seated (λ lane. refl) (λ lane. refl) refl refl (λ lane. refl) inside inside
+pub knock_kept : (lanes : ℕ) (t : Table) (r : Kept lanes t) (id k : ℕ) (v : GateView) → Has t id v → IsPass v → k < lanes → Kept lanes (moved t (8 * k + 8) one_more id (Knocking k))
+knock_kept lanes t r id k v seated pass inside =
+    on_kept lanes t r id k v (Knocking k) seated (λ lane. ap bit (pass_nowhere v pass lane)) (λ lane. refl) (pass_counts v pass).0 (pass_counts v pass).1 (λ lane. refl) inside inside
 
 pub restore_kept : (lanes : ℕ) (t : Table) (r : Kept lanes t) (id k n : ℕ) → Has t id (Broken k n) → k < lanes → Kept lanes (moved t (8 * k + 8) one_more id (Restored k n))
 restore_kept lanes t r id k n seated inside = on_kept lanes t r id k (Broken k n) (Restored k n) seated (λ lane. refl) (λ lane. refl) refl refl (λ lane. refl) inside inside
@@ -125,6 +126,7 @@ break_kept lanes t r id k n seated inside = off_kept lanes t r id k (Inside k n)
 pub leave_kept : (lanes : ℕ) (t : Table) (r : Kept lanes t) (id k : ℕ) (v : GateView) → Has t id v → CountsIn k v → k < lanes → Kept lanes (moved t (8 * k + 8) one_less id (stepped_off v))
 leave_kept lanes t r id k (Keeps p) seated counts inside = absurd counts
 leave_kept lanes t r id k (Outside f) seated counts inside = absurd counts
+leave_kept lanes t r id k (Left f) seated counts inside = absurd counts
 leave_kept lanes t r id k Counted seated counts inside = absurd counts
 leave_kept lanes t r id k (OneTooMany f) seated counts inside = absurd counts
 leave_kept lanes t r id k (Knocking j) seated counts inside = absurd counts
@@ -147,6 +149,11 @@ look_kept lanes t r id k seated =
     (loads lanes t r 0 id (Knocking k) (Turned k x) r.plan seated r.word refl refl (λ lane. refl)
     (λ shut lane less. none_stays lane t.views id (Turned k x) refl (r.still shut lane less)) mine (λ j y _ e. r.seats j y e)))
 
+pub look_back_kept : (lanes : ℕ) (t : Table) (r : Kept lanes t) (id f : ℕ) → Has t id (Outside f) → Kept lanes (moved t 0 (λ n. n) id (Left (get_or t.words 0 0)))
+look_back_kept lanes t r id f seated =
+    let w : GateView = Left (get_or t.words 0 0) in
+    loads lanes t r 0 id (Outside f) w r.plan seated r.word refl refl (λ lane. refl) (λ shut lane less. none_stays lane t.views id w refl (r.still shut lane less)) tt (λ j y _ e. r.seats j y e)
+
 -- a step on the count of passes
 counting : (lanes : ℕ) (t : Table) (r : Kept lanes t) (id m : ℕ) (v w : GateView) → Has t id v → ((lane : ℕ) → is_user lane v ≡ false) → ((lane : ℕ) → is_user lane w ≡ false) → ((lane : ℕ) → is_inside lane w ≡ false)
     → m + counted_by v ≡ get_or t.words 2 0 + counted_by w → length t.views + total due_from t.views + due_from w ≤ most_passes + due_from v → Knows lanes r.plan id w
@@ -162,29 +169,30 @@ counting lanes t r id m v w seated nowhere nowhere' outside passes few mine =
 passes_few : (lanes : ℕ) (t : Table) → Kept lanes t → get_or t.words 2 0 ≤ 8589934592
 passes_few lanes t r = let passes = r.passes in let few = r.few in let more = total_few counted_by counted_few t.views in omega arith
 
-pub count_kept : (lanes : ℕ) (t : Table) (r : Kept lanes t) (id f : ℕ) → Has t id (Outside f) → Kept lanes (moved t 2 one_more id (after_count (get_or t.words 2 0)))
-count_kept lanes t r id f seated =
+pub count_kept : (lanes : ℕ) (t : Table) (r : Kept lanes t) (id : ℕ) (v : GateView) → Has t id v → IsPass v → Kept lanes (moved t 2 one_more id (after_count (get_or t.words 2 0)))
+count_kept lanes t r id v seated pass =
     let n : ℕ = get_or t.words 2 0 in let m : ℕ = (n + 1) % 18446744073709551616 in let most = passes_few lanes t r in let few = r.few in let passes = r.passes in
     let below = total_below due_from counted_by due_counted t.views in
-    split (ltb n most_passes) refl below most few passes
+    let mine = pass_counts v pass in split (ltb n most_passes) refl below most few passes mine.0 mine.1
   where
     n' : ℕ
     n' = get_or t.words 2 0
 
     split : (b : Bool) → ltb n' most_passes ≡ b → total due_from t.views ≤ total counted_by t.views → n' ≤ 8589934592 → length t.views + total due_from t.views ≤ most_passes → n' ≡ length t.views + total counted_by t.views
-        → Kept lanes (moved t 2 one_more id (after_count n'))
-    split true e below most few passes =
+        → counted_by v ≡ 0 → due_from v ≡ 0 → Kept lanes (moved t 2 one_more id (after_count n'))
+    split true e below most few passes none due =
         let less : n' < most_passes = ltb-true n' most_passes e in let told : after_count n' ≡ Counted = rw e refl in
         subst (λ (w : GateView). Kept lanes (moved t 2 one_more id w)) (sym told)
-        (counting lanes t r id ((n' + 1) % 18446744073709551616) (Outside f) Counted seated (λ lane. refl) (λ lane. refl) (λ lane. refl) (omega arith) (omega arith) tt)
-    split false e below most few passes =
+        (counting lanes t r id ((n' + 1) % 18446744073709551616) v Counted seated (pass_nowhere v pass) (λ lane. refl) (λ lane. refl) (omega arith) (omega arith) tt)
+    split false e below most few passes none due =
         let told : after_count n' ≡ OneTooMany n' = rw e refl in
         subst (λ (w : GateView). Kept lanes (moved t 2 one_more id w)) (sym told)
-        (counting lanes t r id ((n' + 1) % 18446744073709551616) (Outside f) (OneTooMany n') seated (λ lane. refl) (λ lane. refl) (λ lane. refl) (omega arith) (omega arith) tt)
+        (counting lanes t r id ((n' + 1) % 18446744073709551616) v (OneTooMany n') seated (pass_nowhere v pass) (λ lane. refl) (λ lane. refl) (omega arith) (omega arith) tt)
 
 pub uncount_kept : (lanes : ℕ) (t : Table) (r : Kept lanes t) (id : ℕ) (v : GateView) → Has t id v → MayUncount v → Kept lanes (moved t 2 one_less id (uncounted v))
 uncount_kept lanes t r id (Keeps p) seated may = absurd may
 uncount_kept lanes t r id (Outside f) seated may = absurd may
+uncount_kept lanes t r id (Left f) seated may = absurd may
 uncount_kept lanes t r id Counted seated may =
     let n : ℕ = get_or t.words 2 0 in let most = passes_few lanes t r in let few = r.few in let passes = r.passes in let some' : 1 ≤ total counted_by t.views = total_at counted_by t.views id Counted seated in
     counting lanes t r id ((n + 18446744073709551615) % 18446744073709551616) Counted (Outside 0) seated (λ lane. refl) (λ lane. refl) (λ lane. refl) (omega arith) (omega arith) tt
@@ -202,6 +210,7 @@ others_same : (lanes : ℕ) (t : Table) (r : Kept lanes t) (id : ℕ) (p : GateP
     → (j : ℕ) (x : GateView) → j ≢ id → Has t j x → Knows lanes p j x
 others_same lanes t r id p first same j (Keeps q) other e = absurd (other ((r.seats j (Keeps q) e).1 ∙ sym first))
 others_same lanes t r id p first same j (Outside f) other e = tt
+others_same lanes t r id p first same j (Left f) other e = tt
 others_same lanes t r id p first same j Counted other e = tt
 others_same lanes t r id p first same j (OneTooMany f) other e = tt
 others_same lanes t r id p first same j (Knocking k) other e = r.seats j (Knocking k) e
@@ -215,6 +224,7 @@ others_next : (lanes : ℕ) (t : Table) (r : Kept lanes t) (id : ℕ) (p : GateP
     → (j : ℕ) (x : GateView) → j ≢ id → Has t j x → Knows lanes p j x
 others_next lanes t r id p first clear j (Keeps q) other e = absurd (other ((r.seats j (Keeps q) e).1 ∙ sym first))
 others_next lanes t r id p first clear j (Outside f) other e = tt
+others_next lanes t r id p first clear j (Left f) other e = tt
 others_next lanes t r id p first clear j Counted other e = tt
 others_next lanes t r id p first clear j (OneTooMany f) other e = tt
 others_next lanes t r id p first clear j (Knocking k) other e = r.seats j (Knocking k) e
@@ -243,6 +253,7 @@ shut_kept lanes t r id p seated =
 inside_counts : (lane : ℕ) (v : GateView) → bit (is_user lane v) ≡ 0 → is_inside lane v ≡ false
 inside_counts lane (Keeps p) e = refl
 inside_counts lane (Outside f) e = refl
+inside_counts lane (Left f) e = refl
 inside_counts lane Counted e = refl
 inside_counts lane (OneTooMany f) e = refl
 inside_counts lane (Knocking k) e = refl
@@ -331,6 +342,7 @@ pass_kept lanes t r id (Keeps p) seated due =
     (others_same lanes t r id q mine.1 (ap (λ (z : GatePlan). z.number) mine.0))
 pass_kept lanes t r id Counted seated due = passes_kept lanes t r id Counted r.plan seated refl refl (λ lane. refl) refl refl (λ lane. refl) (λ lane. refl) refl refl refl tt (λ j x _ e. r.seats j x e)
 pass_kept lanes t r id (Outside f) seated due = absurd (omega arith)
+pass_kept lanes t r id (Left f) seated due = absurd (omega arith)
 pass_kept lanes t r id (OneTooMany f) seated due = absurd (omega arith)
 pass_kept lanes t r id (Knocking k) seated due = absurd (omega arith)
 pass_kept lanes t r id (Inside k n) seated due = absurd (omega arith)

@@ -7,22 +7,23 @@ use lib.ListN.{get_elem?}
 use Rattle.atomic_table.proofs.Lists.{at_set, at_snoc, set_here, set_else, at_longer}
 use Rattle.kf_gates.specs.declared.view.GatePlan.{GatePlan}
 use Rattle.kf_gates.specs.declared.view.GateView.{GateView}
-use Rattle.kf_gates.specs.declared.view.GateView.TheVariants.{Keeps, Outside, Counted, OneTooMany, Knocking, Inside, Turned, Broken, Restored}
-use Rattle.kf_gates.specs.Rule.{Table, bit, gate_word, most_passes, Kept}
+use Rattle.kf_gates.specs.declared.view.GateView.TheVariants.{Keeps, Outside, Left, Counted, OneTooMany, Knocking, Inside, Turned, Broken, Restored}
+use Rattle.kf_gates.specs.Rule.{Table, IsPass, bit, gate_word, most_passes, Kept}
 use Rattle.kf_gates.specs.Laws.{Has}
 use Rattle.kf_gates.specs.Steps.{after_count, looked, next_plan, pass_made, scanned, shut_plan, stepped_off, uncounted}
 use Rattle.kf_gates.specs.Runs.{Kind, CountsIn, MayUncount, one_more, one_less, moved, with_pass, GateStep, GateRun, OpensWell, RuleKept, NobodyPastTheMark, ClosedForGood}
-use Rattle.kf_gates.specs.Runs.Kind.{knocks, looks, leaves, breaks, restores, counts, uncounts, makes_pass, shuts, scans, opens, counts_sleep}
+use Rattle.kf_gates.specs.Runs.Kind.{knocks, looks, looks_back, leaves, breaks, restores, counts, uncounts, makes_pass, shuts, scans, opens, counts_sleep}
 use Rattle.kf_gates.proofs.Counting.{there}
-use Rattle.kf_gates.proofs.Keeping.{half, odd_of, knock_kept, look_kept, leave_kept, break_kept, restore_kept, count_kept, uncount_kept, pass_kept, shut_kept, scan_kept, open_kept, sleep_kept, opening_kept, nobody_inside}
+use Rattle.kf_gates.proofs.Keeping.{half, odd_of, knock_kept, look_kept, look_back_kept, leave_kept, break_kept, restore_kept, count_kept, uncount_kept, pass_kept, shut_kept, scan_kept, open_kept, sleep_kept, opening_kept, nobody_inside}
 
 step_keeps : (lanes : ℕ) (t u : Table) (kind : Kind) → Kept lanes t → GateStep lanes t kind u → Kept lanes u
-step_keeps lanes t u (knocks j k f) r s = subst (λ (x : Table). Kept lanes x) (sym s.2) (knock_kept lanes t r j k f s.0 s.1)
+step_keeps lanes t u (knocks j k v) r s = subst (λ (x : Table). Kept lanes x) (sym s.3) (knock_kept lanes t r j k v s.0 s.1 s.2)
 step_keeps lanes t u (looks j k) r s = subst (λ (x : Table). Kept lanes x) (sym s.1) (look_kept lanes t r j k s.0)
+step_keeps lanes t u (looks_back j f) r s = subst (λ (x : Table). Kept lanes x) (sym s.1) (look_back_kept lanes t r j f s.0)
 step_keeps lanes t u (leaves j k v) r s = subst (λ (x : Table). Kept lanes x) (sym s.3) (leave_kept lanes t r j k v s.0 s.1 s.2)
 step_keeps lanes t u (breaks j k n) r s = subst (λ (x : Table). Kept lanes x) (sym s.2) (break_kept lanes t r j k n s.0 s.1)
 step_keeps lanes t u (restores j k n) r s = subst (λ (x : Table). Kept lanes x) (sym s.2) (restore_kept lanes t r j k n s.0 s.1)
-step_keeps lanes t u (counts j f) r s = subst (λ (x : Table). Kept lanes x) (sym s.1) (count_kept lanes t r j f s.0)
+step_keeps lanes t u (counts j v) r s = subst (λ (x : Table). Kept lanes x) (sym s.2) (count_kept lanes t r j v s.0 s.1)
 step_keeps lanes t u (uncounts j v) r s = subst (λ (x : Table). Kept lanes x) (sym s.2) (uncount_kept lanes t r j v s.0 s.1)
 step_keeps lanes t u (makes_pass j v) r s = subst (λ (x : Table). Kept lanes x) (sym s.2) (pass_kept lanes t r j v s.0 s.1)
 step_keeps lanes t u (shuts j p) r s = subst (λ (x : Table). Kept lanes x) (sym s.2) (shut_kept lanes t r j p s.0)
@@ -49,6 +50,7 @@ After lanes p u = (q : GatePlan) × Has u 0 (Keeps q) × Onward lanes p q
 abbrev is_keeper : GateView → Bool
 is_keeper (Keeps p) = true
 is_keeper (Outside f) = false
+is_keeper (Left f) = false
 is_keeper Counted = false
 is_keeper (OneTooMany f) = false
 is_keeper (Knocking k) = false
@@ -81,6 +83,7 @@ pass_moves lanes t r j v p at keeper after = (after.0, at_longer (set t.views j 
 makes_onward : (lanes : ℕ) (t : Table) (r : Kept lanes t) (j : ℕ) (v : GateView) (p : GatePlan) → Has t j v → Has t 0 (Keeps p) → After lanes p (with_pass t j v)
 makes_onward lanes t r j (Keeps q) p at keeper = pass_moves lanes t r j (Keeps q) p at keeper (keeper_moves lanes t r 0 (λ n. n) j q p (record q { spare = false }) at keeper (stays refl refl refl))
 makes_onward lanes t r j (Outside f) p at keeper = pass_moves lanes t r j (Outside f) p at keeper (other_moves lanes t 0 (λ n. n) j (Outside f) (Outside f) p at refl keeper)
+makes_onward lanes t r j (Left f) p at keeper = pass_moves lanes t r j (Left f) p at keeper (other_moves lanes t 0 (λ n. n) j (Left f) (Left f) p at refl keeper)
 makes_onward lanes t r j Counted p at keeper = pass_moves lanes t r j Counted p at keeper (other_moves lanes t 0 (λ n. n) j Counted (Outside 0) p at refl keeper)
 makes_onward lanes t r j (OneTooMany f) p at keeper = pass_moves lanes t r j (OneTooMany f) p at keeper (other_moves lanes t 0 (λ n. n) j (OneTooMany f) (OneTooMany f) p at refl keeper)
 makes_onward lanes t r j (Knocking k) p at keeper = pass_moves lanes t r j (Knocking k) p at keeper (other_moves lanes t 0 (λ n. n) j (Knocking k) (Knocking k) p at refl keeper)
@@ -92,6 +95,7 @@ makes_onward lanes t r j (Restored k n) p at keeper = pass_moves lanes t r j (Re
 counting_caller : (k : ℕ) (v : GateView) → CountsIn k v → is_keeper v ≡ false
 counting_caller k (Keeps p) c = absurd c
 counting_caller k (Outside f) c = refl
+counting_caller k (Left f) c = refl
 counting_caller k Counted c = refl
 counting_caller k (OneTooMany f) c = refl
 counting_caller k (Knocking j) c = refl
@@ -100,9 +104,22 @@ counting_caller k (Turned j f) c = refl
 counting_caller k (Broken j n) c = refl
 counting_caller k (Restored j n) c = refl
 
+a_pass : (v : GateView) → IsPass v → is_keeper v ≡ false
+a_pass (Keeps p) c = absurd c
+a_pass (Outside f) c = refl
+a_pass (Left f) c = refl
+a_pass Counted c = refl
+a_pass (OneTooMany f) c = refl
+a_pass (Knocking j) c = refl
+a_pass (Inside j n) c = refl
+a_pass (Turned j f) c = refl
+a_pass (Broken j n) c = refl
+a_pass (Restored j n) c = refl
+
 uncounting_caller : (v : GateView) → MayUncount v → is_keeper v ≡ false
 uncounting_caller (Keeps p) c = absurd c
 uncounting_caller (Outside f) c = refl
+uncounting_caller (Left f) c = refl
 uncounting_caller Counted c = refl
 uncounting_caller (OneTooMany f) c = refl
 uncounting_caller (Knocking j) c = refl
@@ -112,12 +129,13 @@ uncounting_caller (Broken j n) c = refl
 uncounting_caller (Restored j n) c = refl
 
 goes_onward : (lanes : ℕ) (t u : Table) (kind : Kind) (r : Kept lanes t) → GateStep lanes t kind u → (p : GatePlan) → Has t 0 (Keeps p) → After lanes p u
-goes_onward lanes t u (knocks j k f) r s p keeper = subst (After lanes p) (sym s.2) (other_moves lanes t (8 * k + 8) one_more j (Outside f) (Knocking k) p s.0 refl keeper)
+goes_onward lanes t u (knocks j k v) r s p keeper = subst (After lanes p) (sym s.3) (other_moves lanes t (8 * k + 8) one_more j v (Knocking k) p s.0 (a_pass v s.1) keeper)
 goes_onward lanes t u (looks j k) r s p keeper = subst (After lanes p) (sym s.1) (other_moves lanes t 0 (λ n. n) j (Knocking k) (looked (get_or t.words 0 0) k) p s.0 refl keeper)
+goes_onward lanes t u (looks_back j f) r s p keeper = subst (After lanes p) (sym s.1) (other_moves lanes t 0 (λ n. n) j (Outside f) (Left (get_or t.words 0 0)) p s.0 refl keeper)
 goes_onward lanes t u (leaves j k v) r s p keeper = subst (After lanes p) (sym s.3) (other_moves lanes t (8 * k + 8) one_less j v (stepped_off v) p s.0 (counting_caller k v s.1) keeper)
 goes_onward lanes t u (breaks j k n) r s p keeper = subst (After lanes p) (sym s.2) (other_moves lanes t (8 * k + 8) one_less j (Inside k n) (Broken k n) p s.0 refl keeper)
 goes_onward lanes t u (restores j k n) r s p keeper = subst (After lanes p) (sym s.2) (other_moves lanes t (8 * k + 8) one_more j (Broken k n) (Restored k n) p s.0 refl keeper)
-goes_onward lanes t u (counts j f) r s p keeper = subst (After lanes p) (sym s.1) (other_moves lanes t 2 one_more j (Outside f) (after_count (get_or t.words 2 0)) p s.0 refl keeper)
+goes_onward lanes t u (counts j v) r s p keeper = subst (After lanes p) (sym s.2) (other_moves lanes t 2 one_more j v (after_count (get_or t.words 2 0)) p s.0 (a_pass v s.1) keeper)
 goes_onward lanes t u (uncounts j v) r s p keeper = subst (After lanes p) (sym s.2) (other_moves lanes t 2 one_less j v (uncounted v) p s.0 (uncounting_caller v s.1) keeper)
 goes_onward lanes t u (makes_pass j v) r s p keeper = subst (After lanes p) (sym s.2) (makes_onward lanes t r j v p s.0 keeper)
 goes_onward lanes t u (shuts j q) r s p keeper = subst (After lanes p) (sym s.2) (keeper_moves lanes t r 0 (λ _. gate_word q.number true) j q p (shut_plan q) s.0 keeper (is_shut s.1 refl refl))
@@ -131,6 +149,7 @@ goes_onward lanes t u (scans j q) r s p keeper =
         plan_seen : GateView → ℕ
         plan_seen (Keeps y) = y.seen
         plan_seen (Outside f) = 0
+        plan_seen (Left f) = 0
         plan_seen Counted = 0
         plan_seen (OneTooMany f) = 0
         plan_seen (Knocking k) = 0
@@ -189,6 +208,7 @@ closed_for_good lanes t u kinds r run p keeper over seat lane number inside =
 abbrev inside_under : ℕ → GateView → Bool
 inside_under n (Keeps p) = false
 inside_under n (Outside f) = false
+inside_under n (Left f) = false
 inside_under n Counted = false
 inside_under n (OneTooMany f) = false
 inside_under n (Knocking k) = false
@@ -207,6 +227,7 @@ lets_none t i f j n w out seat lane inside = ⊎_elim
 stepped_out : (n : ℕ) (k : ℕ) (v : GateView) → CountsIn k v → inside_under n (stepped_off v) ≡ false
 stepped_out n k (Keeps p) c = absurd c
 stepped_out n k (Outside f) c = refl
+stepped_out n k (Left f) c = refl
 stepped_out n k Counted c = refl
 stepped_out n k (OneTooMany f) c = refl
 stepped_out n k (Knocking j) c = refl
@@ -218,6 +239,7 @@ stepped_out n k (Restored j m) c = refl
 uncounted_out : (n : ℕ) (v : GateView) → MayUncount v → inside_under n (uncounted v) ≡ false
 uncounted_out n (Keeps p) c = absurd c
 uncounted_out n (Outside f) c = refl
+uncounted_out n (Left f) c = refl
 uncounted_out n Counted c = refl
 uncounted_out n (OneTooMany f) c = refl
 uncounted_out n (Knocking j) c = absurd c
@@ -257,6 +279,7 @@ passed_out t j n v at seat lane inside = ⊎_elim
     unmade : (y : GateView) → pass_made y ≡ Inside lane n → y ≡ Inside lane n
     unmade (Keeps p) e = absurd (not_both (ap (inside_under n) e ∙ eq-eqb n n refl))
     unmade (Outside f) e = e
+    unmade (Left f) e = e
     unmade Counted e = absurd (not_both (ap (inside_under n) e ∙ eq-eqb n n refl))
     unmade (OneTooMany f) e = e
     unmade (Knocking k) e = e
@@ -268,14 +291,15 @@ passed_out t j n v at seat lane inside = ⊎_elim
 -- no step past the mark lets anybody in under the number
 none_enters : (lanes n : ℕ) (t u : Table) (kind : Kind) (r : Kept lanes t) → GateStep lanes t kind u → (p : GatePlan) → Has t 0 (Keeps p) → Past n p
     → (seat lane : ℕ) → Has u seat (Inside lane n) → Has t seat (Inside lane n)
-none_enters lanes n t u (knocks j k f) r s p keeper past seat lane inside = lets_none t (8 * k + 8) one_more j n (Knocking k) refl seat lane (subst (λ (x : Table). Has x seat (Inside lane n)) s.2 inside)
+none_enters lanes n t u (knocks j k v) r s p keeper past seat lane inside = lets_none t (8 * k + 8) one_more j n (Knocking k) refl seat lane (subst (λ (x : Table). Has x seat (Inside lane n)) s.3 inside)
 none_enters lanes n t u (looks j k) r s p keeper past seat lane inside =
     lets_none t 0 (λ m. m) j n (looked (get_or t.words 0 0) k) (looked_out lanes t r n k p keeper past) seat lane (subst (λ (x : Table). Has x seat (Inside lane n)) s.1 inside)
+none_enters lanes n t u (looks_back j f) r s p keeper past seat lane inside = lets_none t 0 (λ m. m) j n (Left (get_or t.words 0 0)) refl seat lane (subst (λ (x : Table). Has x seat (Inside lane n)) s.1 inside)
 none_enters lanes n t u (leaves j k v) r s p keeper past seat lane inside = lets_none t (8 * k + 8) one_less j n (stepped_off v) (stepped_out n k v s.1) seat lane (subst (λ (x : Table). Has x seat (Inside lane n)) s.3 inside)
 none_enters lanes n t u (breaks j k m) r s p keeper past seat lane inside = lets_none t (8 * k + 8) one_less j n (Broken k m) refl seat lane (subst (λ (x : Table). Has x seat (Inside lane n)) s.2 inside)
 none_enters lanes n t u (restores j k m) r s p keeper past seat lane inside = lets_none t (8 * k + 8) one_more j n (Restored k m) refl seat lane (subst (λ (x : Table). Has x seat (Inside lane n)) s.2 inside)
-none_enters lanes n t u (counts j f) r s p keeper past seat lane inside =
-    lets_none t 2 one_more j n (after_count (get_or t.words 2 0)) (counted_out n (get_or t.words 2 0)) seat lane (subst (λ (x : Table). Has x seat (Inside lane n)) s.1 inside)
+none_enters lanes n t u (counts j v) r s p keeper past seat lane inside =
+    lets_none t 2 one_more j n (after_count (get_or t.words 2 0)) (counted_out n (get_or t.words 2 0)) seat lane (subst (λ (x : Table). Has x seat (Inside lane n)) s.2 inside)
 none_enters lanes n t u (uncounts j v) r s p keeper past seat lane inside = lets_none t 2 one_less j n (uncounted v) (uncounted_out n v s.1) seat lane (subst (λ (x : Table). Has x seat (Inside lane n)) s.2 inside)
 none_enters lanes n t u (makes_pass j v) r s p keeper past seat lane inside = passed_out t j n v s.0 seat lane (subst (λ (x : Table). Has x seat (Inside lane n)) s.2 inside)
 none_enters lanes n t u (shuts j q) r s p keeper past seat lane inside = lets_none t 0 (λ _. gate_word q.number true) j n (Keeps (shut_plan q)) refl seat lane (subst (λ (x : Table). Has x seat (Inside lane n)) s.2 inside)

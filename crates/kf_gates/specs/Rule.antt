@@ -5,7 +5,7 @@ use lib.ListN.{get_elem?}
 use Rattle.atomic_table.specs.Table.{State}
 use Rattle.kf_gates.specs.declared.view.GatePlan.{GatePlan}
 use Rattle.kf_gates.specs.declared.view.GateView.{GateView}
-use Rattle.kf_gates.specs.declared.view.GateView.TheVariants.{Keeps, Outside, Counted, OneTooMany, Knocking, Inside, Turned, Broken, Restored}
+use Rattle.kf_gates.specs.declared.view.GateView.TheVariants.{Keeps, Outside, Left, Counted, OneTooMany, Knocking, Inside, Turned, Broken, Restored}
 
 abbrev pub Table : Type 0
 Table = State (Unit {0}) GateView
@@ -23,10 +23,24 @@ gate_word number shut = number * 2 + bit shut
 abbrev pub most_passes : ℕ
 most_passes = 4294967296
 
+-- the seat is a pass: it counts in no lane, and has counted no pass that it has not made
+abbrev pub IsPass : GateView → Type 0
+IsPass (Keeps p) = ⊥
+IsPass (Outside f) = Unit {0}
+IsPass (Left f) = Unit {0}
+IsPass Counted = ⊥
+IsPass (OneTooMany f) = ⊥
+IsPass (Knocking k) = ⊥
+IsPass (Inside k n) = ⊥
+IsPass (Turned k f) = ⊥
+IsPass (Broken k n) = ⊥
+IsPass (Restored k n) = ⊥
+
 -- the seat counts in this lane
 abbrev pub is_user : ℕ → GateView → Bool
 is_user lane (Keeps p) = false
 is_user lane (Outside f) = false
+is_user lane (Left f) = false
 is_user lane Counted = false
 is_user lane (OneTooMany f) = false
 is_user lane (Knocking k) = k == lane
@@ -39,6 +53,7 @@ is_user lane (Restored k n) = k == lane
 abbrev pub is_inside : ℕ → GateView → Bool
 is_inside lane (Keeps p) = false
 is_inside lane (Outside f) = false
+is_inside lane (Left f) = false
 is_inside lane Counted = false
 is_inside lane (OneTooMany f) = false
 is_inside lane (Knocking k) = false
@@ -51,6 +66,7 @@ is_inside lane (Restored k n) = false
 abbrev pub counted_by : GateView → ℕ
 counted_by (Keeps p) = bit p.spare
 counted_by (Outside f) = 0
+counted_by (Left f) = 0
 counted_by Counted = 1
 counted_by (OneTooMany f) = 1
 counted_by (Knocking k) = 0
@@ -63,6 +79,7 @@ counted_by (Restored k n) = 0
 abbrev pub due_from : GateView → ℕ
 due_from (Keeps p) = bit p.spare
 due_from (Outside f) = 0
+due_from (Left f) = 0
 due_from Counted = 1
 due_from (OneTooMany f) = 0
 due_from (Knocking k) = 0
@@ -89,6 +106,7 @@ NoneInside lane views = (j : ℕ) (v : GateView) → get_elem? views j ≡ some 
 abbrev pub Knows : ℕ → GatePlan → ℕ → GateView → Type 0
 Knows lanes p j (Keeps q) = (q ≡ p) × (j ≡ 0)
 Knows lanes p j (Outside f) = Unit {0}
+Knows lanes p j (Left f) = Unit {0}
 Knows lanes p j Counted = Unit {0}
 Knows lanes p j (OneTooMany f) = Unit {0}
 Knows lanes p j (Knocking k) = k < lanes

@@ -3,19 +3,20 @@ use Rattle.std.specs.Prelude.{◌≡◌, ℕ, ◌+◌, ◌*◌, ◌%◌, ◌<◌
 use Rattle.atomic_table.specs.Table.{opening}
 use Rattle.kf_gates.specs.declared.view.GatePlan.{GatePlan}
 use Rattle.kf_gates.specs.declared.view.GateView.{GateView}
-use Rattle.kf_gates.specs.declared.view.GateView.TheVariants.{Keeps, Outside, Counted, OneTooMany, Knocking, Inside, Turned, Broken, Restored}
-use Rattle.kf_gates.specs.Rule.{Table, Kept, gate_word, due_from, opened}
+use Rattle.kf_gates.specs.declared.view.GateView.TheVariants.{Keeps, Outside, Left, Counted, OneTooMany, Knocking, Inside, Turned, Broken, Restored}
+use Rattle.kf_gates.specs.Rule.{Table, Kept, IsPass, gate_word, due_from, opened}
 use Rattle.kf_gates.specs.Steps.{after_count, looked, next_plan, pass_made, scanned, shut_plan, stepped_off, uncounted}
 use Rattle.kf_gates.specs.Laws.{Has, IsOver}
 
 -- the kinds of step, each with the seat that makes it and what that seat knows
 pub data Kind : Type 0 where
-  knocks : ℕ → ℕ → ℕ → Kind
+  knocks : ℕ → ℕ → GateView → Kind
   looks : ℕ → ℕ → Kind
+  looks_back : ℕ → ℕ → Kind
   leaves : ℕ → ℕ → GateView → Kind
   breaks : ℕ → ℕ → ℕ → Kind
   restores : ℕ → ℕ → ℕ → Kind
-  counts : ℕ → ℕ → Kind
+  counts : ℕ → GateView → Kind
   uncounts : ℕ → GateView → Kind
   makes_pass : ℕ → GateView → Kind
   shuts : ℕ → GatePlan → Kind
@@ -27,6 +28,7 @@ pub data Kind : Type 0 where
 abbrev pub CountsIn : ℕ → GateView → Type 0
 CountsIn lane (Keeps p) = ⊥
 CountsIn lane (Outside f) = ⊥
+CountsIn lane (Left f) = ⊥
 CountsIn lane Counted = ⊥
 CountsIn lane (OneTooMany f) = ⊥
 CountsIn lane (Knocking k) = ⊥
@@ -39,6 +41,7 @@ CountsIn lane (Restored k n) = k ≡ lane
 abbrev pub MayUncount : GateView → Type 0
 MayUncount (Keeps p) = ⊥
 MayUncount (Outside f) = ⊥
+MayUncount (Left f) = ⊥
 MayUncount Counted = Unit {0}
 MayUncount (OneTooMany f) = Unit {0}
 MayUncount (Knocking k) = ⊥
@@ -72,17 +75,19 @@ with_pass t j v = record {
 
 -- one step, as the machine makes it
 abbrev pub GateStep : ℕ → Table → Kind → Table → Type 0
-GateStep lanes t (knocks j k f) u = Has t j (Outside f) × (k < lanes)
+GateStep lanes t (knocks j k v) u = Has t j v × IsPass v × (k < lanes)
     × (u ≡ moved t (8 * k + 8) one_more j (Knocking k))
 GateStep lanes t (looks j k) u = Has t j (Knocking k)
     × (u ≡ moved t 0 (λ n. n) j (looked (slice_index t.words 0) k))
+GateStep lanes t (looks_back j f) u = Has t j (Outside f)
+    × (u ≡ moved t 0 (λ n. n) j (Left (slice_index t.words 0)))
 GateStep lanes t (leaves j k v) u = Has t j v × CountsIn k v × (k < lanes)
     × (u ≡ moved t (8 * k + 8) one_less j (stepped_off v))
 GateStep lanes t (breaks j k n) u = Has t j (Inside k n) × (k < lanes)
     × (u ≡ moved t (8 * k + 8) one_less j (Broken k n))
 GateStep lanes t (restores j k n) u = Has t j (Broken k n) × (k < lanes)
     × (u ≡ moved t (8 * k + 8) one_more j (Restored k n))
-GateStep lanes t (counts j f) u = Has t j (Outside f)
+GateStep lanes t (counts j v) u = Has t j v × IsPass v
     × (u ≡ moved t 2 one_more j (after_count (slice_index t.words 2)))
 GateStep lanes t (uncounts j v) u = Has t j v × MayUncount v × (u ≡ moved t 2 one_less j (uncounted v))
 GateStep lanes t (makes_pass j v) u = Has t j v × (due_from v ≡ 1) × (u ≡ with_pass t j v)

@@ -3,7 +3,7 @@ use Rattle.std.specs.Prelude.{◌≡◌, ℕ, ◌+◌, ◌*◌, ◌/◌, ◌%◌
 use Rattle.atomic_table.specs.Table.{Me, Step}
 use Rattle.kf_gates.specs.declared.view.GatePlan.{GatePlan}
 use Rattle.kf_gates.specs.declared.view.GateView.{GateView}
-use Rattle.kf_gates.specs.declared.view.GateView.TheVariants.{Keeps, Outside, Counted, OneTooMany, Knocking, Inside, Turned, Broken, Restored}
+use Rattle.kf_gates.specs.declared.view.GateView.TheVariants.{Keeps, Outside, Left, Counted, OneTooMany, Knocking, Inside, Turned, Broken, Restored}
 use Rattle.kf_gates.specs.Rule.{gate_word, most_passes}
 
 abbrev pub Seated : Type 0
@@ -13,6 +13,7 @@ Seated = Me (Unit {0}) GateView
 abbrev pub pass_made : GateView → GateView
 pass_made (Keeps p) = Keeps (record p { spare = false })
 pass_made (Outside f) = Outside f
+pass_made (Left f) = Left f
 pass_made Counted = Outside 0
 pass_made (OneTooMany f) = OneTooMany f
 pass_made (Knocking k) = Knocking k
@@ -29,6 +30,7 @@ after_count found = if ltb found most_passes then Counted else OneTooMany found
 abbrev pub uncounted : GateView → GateView
 uncounted (Keeps p) = Keeps p
 uncounted (Outside f) = Outside f
+uncounted (Left f) = Left f
 uncounted Counted = Outside 0
 uncounted (OneTooMany f) = Outside f
 uncounted (Knocking k) = Knocking k
@@ -45,6 +47,7 @@ looked found lane = if found % 2 == 0 then Inside lane (found / 2) else Turned l
 abbrev pub stepped_off : GateView → GateView
 stepped_off (Keeps p) = Keeps p
 stepped_off (Outside f) = Outside f
+stepped_off (Left f) = Left f
 stepped_off Counted = Counted
 stepped_off (OneTooMany f) = OneTooMany f
 stepped_off (Knocking k) = Knocking k
@@ -69,6 +72,9 @@ MakesKnock st me found me' = (lane : ℕ) → st.word ≡ 8 * lane + 8 → me'.0
 
 abbrev pub MakesLook : Step (Unit {0}) → Seated → ℕ → Seated → Type 0
 MakesLook st me found me' = (lane : ℕ) → me.0 ≡ Knocking lane → me'.0 ≡ looked found lane
+
+abbrev pub MakesLookBack : Step (Unit {0}) → Seated → ℕ → Seated → Type 0
+MakesLookBack st me found me' = (before : ℕ) → me.0 ≡ Outside before → me'.0 ≡ Left found
 
 abbrev pub MakesLeave : Step (Unit {0}) → Seated → ℕ → Seated → Type 0
 MakesLeave st me found me' = me'.0 ≡ stepped_off me.0

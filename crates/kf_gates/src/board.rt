@@ -10,15 +10,15 @@ ghost use Rattle.std.specs.Prelude.{◌≡◌, ℕ, ◌+◌, ◌*◌, ◌<◌, �
 ghost use Rattle.kf_gates.specs.declared.view.GatePlan.{GatePlan};
 ghost use Rattle.kf_gates.specs.declared.view.GateView.{GateView};
 ghost use Rattle.kf_gates.specs.declared.view.GateView.TheVariants as seat_of;
-ghost use Rattle.kf_gates.specs.Rule.{due_from, opened};
+ghost use Rattle.kf_gates.specs.Rule.{IsPass, due_from, opened};
 ghost use Rattle.kf_gates.specs.Runs.{CountsIn, MayUncount};
 ghost use Rattle.kf_gates.specs.Steps.{after_count, looked, next_plan, pass_made, scanned, shut_plan, stepped_off, uncounted};
 ghost use Rattle.kf_gates.specs.Laws.{IsOver};
 ghost use Rattle.kf_gates.specs.Board.{IsSameSeat};
 
 use crate::plays::{
-    Breaks, Counts, CountsSleep, Knocks, Leaves, Looks, Opens, Passes, Restores, Scans, Shuts,
-    Uncounts,
+    Breaks, Counts, CountsSleep, Knocks, Leaves, Looks, LooksBack, Opens, Passes, Restores, Scans,
+    Shuts, Uncounts,
 };
 use crate::table::GateTable;
 use crate::view::{GatePlan, GateView};
@@ -81,7 +81,7 @@ impl Board {
     /// How many passes it found.
     pub(crate) fn count(&self, seat: &mut GateSeat) -> u64
         requires table { seat.old.table_id ≡ self.now.table.shared.table_id }
-        requires outside { (found : ℕ) × (seat.old.me.0 ≡ seat_of.Outside found) }
+        requires outside { IsPass seat.old.me.0 }
         ensures same { IsSameSeat seat.old seat.new }
         ensures made { seat.new.me.0 ≡ after_count result }
     {
@@ -101,13 +101,25 @@ impl Board {
     pub(crate) fn knock(&self, seat: &mut GateSeat, lane: u64) -> u64
         requires table { seat.old.table_id ≡ self.now.table.shared.table_id }
         requires lane { lane < self.now.lanes }
-        requires outside { (found : ℕ) × (seat.old.me.0 ≡ seat_of.Outside found) }
+        requires outside { IsPass seat.old.me.0 }
         ensures same { IsSameSeat seat.old seat.new }
         ensures made { seat.new.me.0 ≡ looked result lane }
     {
         let word = 8 * lane as usize + 8;
         self.table.shared.fetch_add::<Knocks>(seat, word, 1);
         self.table.shared.load::<Looks>(seat, 0)
+    }
+
+    /// Counts the caller no longer, and returns how many were counted in its lane. It wakes nobody.
+    pub(crate) fn step_back(&self, seat: &mut GateSeat, lane: u64) -> u64
+        requires table { seat.old.table_id ≡ self.now.table.shared.table_id }
+        requires lane { lane < self.now.lanes }
+        requires counts { CountsIn lane seat.old.me.0 }
+        ensures same { IsSameSeat seat.old seat.new }
+        ensures made { seat.new.me.0 ≡ stepped_off seat.old.me.0 }
+    {
+        let word = 8 * lane as usize + 8;
+        self.table.shared.fetch_sub::<Leaves>(seat, word, 1)
     }
 
     /// Counts the caller no longer, and wakes those who sleep on the lane if it was the last.
@@ -118,12 +130,23 @@ impl Board {
         ensures same { IsSameSeat seat.old seat.new }
         ensures made { seat.new.me.0 ≡ stepped_off seat.old.me.0 }
     {
-        let word = 8 * lane as usize + 8;
-        let found = self.table.shared.fetch_sub::<Leaves>(seat, word, 1);
-        self.wake(word, found);
+        let found = self.step_back(seat, lane);
+        self.wake(8 * lane as usize + 8, found);
     }
 
-    /// The same of a caller that will count itself again.
+    /// Counts the caller no longer, and then looks at the gate's word, which it returns. It wakes nobody.
+    pub(crate) fn step_away(&self, seat: &mut GateSeat, lane: u64) -> u64
+        requires table { seat.old.table_id ≡ self.now.table.shared.table_id }
+        requires lane { lane < self.now.lanes }
+        requires counts { CountsIn lane seat.old.me.0 }
+        ensures same { IsSameSeat seat.old seat.new }
+        ensures made { seat.new.me.0 ≡ seat_of.Left result }
+    {
+        self.step_back(seat, lane);
+        self.table.shared.load::<LooksBack>(seat, 0)
+    }
+
+    /// The same as `step_off`, of a caller that will count itself again.
     pub(crate) fn break_off(&self, seat: &mut GateSeat, lane: u64)
         requires table { seat.old.table_id ≡ self.now.table.shared.table_id }
         requires lane { lane < self.now.lanes }

@@ -19,9 +19,9 @@ pub struct Pass {
 }
 
 impl Model for Pass {
-    ghost use Rattle.std.specs.Prelude.{◌≡◌, ◌<◌, ℕ};
+    ghost use Rattle.std.specs.Prelude.{◌≡◌, ◌<◌};
     ghost use Rattle.std.specs.Arc.{arc_value};
-    ghost use Rattle.kf_gates.specs.declared.view.GateView.TheVariants.{Outside};
+    ghost use Rattle.kf_gates.specs.Rule.{IsPass};
     ghost use Rattle.kf_gates.specs.States.{PassState};
 
     ghost Value = { PassState };
@@ -36,7 +36,7 @@ impl Model for Pass {
     } };
 
     ghost invariant = { λ p. (p.seat.table_id ≡ (arc_value p.board).table.shared.table_id)
-        × (p.lane < (arc_value p.board).lanes) × ((found : ℕ) × (p.seat.me.0 ≡ Outside found)) };
+        × (p.lane < (arc_value p.board).lanes) × IsPass p.seat.me.0 };
 }
 
 impl Pass {

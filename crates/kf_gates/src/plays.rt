@@ -50,6 +50,15 @@ impl Play<(), GateView> for Looks {
     ghost then = { MakesLook };
 }
 
+/// A caller that has left its lane loads the gate's word.
+pub(crate) struct LooksBack;
+
+impl Play<(), GateView> for LooksBack {
+    ghost use Rattle.kf_gates.specs.Steps.{MakesLookBack};
+
+    ghost then = { MakesLookBack };
+}
+
 /// A caller no longer counts itself.
 pub(crate) struct Leaves;
 

@@ -19,6 +19,8 @@ pub enum GateView {
     Keeps(GatePlan),
     /// It counts in no lane. Its last look found this word, or this number of passes.
     Outside(u64),
+    /// It counts in no lane. After it had left its lane it looked, and found this word of the gate.
+    Left(u64),
     /// It has counted a pass that has no seat yet.
     Counted,
     /// It has counted one pass more than a gate may have: it found this number.
