@@ -15,6 +15,8 @@
  *                             ^--------------kt_leave()-----'<--------------------------kt_leave()--------------'
  *     nothing --kt_dup()--> a hold of the node of another hold
  *     nothing --kt_looker()--> a looker --kt_pin()--> a hold, behind another handle
+ *     a hold --kt_gate()--> a gate --kt_shut()--> a hold again
+ *     nothing --kt_gate(), kt_pass()--> a pass --kt_pass_enter()--> a pass that is inside --kt_pass_leave()--> a pass
  *
  * - A hold keeps the slot of its node from being reused; it does not keep the node in the tree.
  * - A call is what a callback runs under.
@@ -22,6 +24,8 @@
  * - An open file (kt_open()) is a hold too, with a post and the text of its last show. It is entered and left like a
  *   hold.
  * - A looker looks paths up and makes holds without the tree's lock. Each thread has its own.
+ * - A gate (percpu_ref) keeps one call of its node for all threads. Each thread goes through it by its own pass, so the
+ *   threads write no cache line that they share. No removal of the node is over before kt_shut() has returned 0 or 1.
  * - A use that does not fit what is behind the handle returns -EINVAL: a hold instead of a tree, kt_leave() outside a
  *   call, kt_enter() twice, kt_leave() of a broken call.
  *
@@ -51,6 +55,10 @@
  * - A call returns 0 only if the thing was done, as the tree defines it: the node is linked, found, moved, held,
  *   activated, or out of the tree; the hold was let in while its node was live; the call was left, broken or restored;
  *   the event number was raised.
+ * - kt_gate() makes a gate only if the hold was let in while its node was live. kt_pass_enter() returns 0 only if a
+ *   look found the gate open after the pass was counted, and -ENODEV only if it found the gate not open. kt_shut() returns 0
+ *   or 1 only if the gate was shut, each lane was seen empty after that, and then the gate's call was left.
+ * - kt_pass_leave() returns 1 exactly if a look after the pass was left found the gate shut.
  * - kt_leave() and kt_break() return 1 exactly if a removal or a hiding may be waiting for that step. kt_clear() and
  *   kt_delete() end a call, and then return 1 for the same reason. They also return 1 exactly if the hold that they
  *   release had the last place: their step found the maximum of holds. They return 0 for everything else.
@@ -76,10 +84,10 @@
  * - So do kt_enter(), kt_begin_read() and kt_begin_write(); if they return -ENODEV, a hold was tried. kt_leave(),
  *   kt_break(), kt_restore(), kt_changed() and kt_shown() fail only with -EINVAL, and only if there is no such call.
  * - kt_clear() and kt_delete() fail with -EBUSY only for a tree with a file whose hiding has not yet seen nobody
- *   inside, and with nothing else.
+ *   inside, a gate, or a pass that is inside, and with nothing else.
  * - A handle that gets something new had nothing behind it; otherwise it is -EINVAL.
- * - After a negative result, except -EAGAIN of kt_remove() and kt_hide(), and except kt_new() and kt_delete(), the
- *   tree, the handle and `out` are as they were. (A refused try to enter was counted for a moment.)
+ * - After a negative result, except -EAGAIN of kt_remove(), kt_hide() and kt_shut(), and except kt_new() and kt_delete(),
+ *   the tree, the handle and `out` are as they were. (A refused try to enter was counted for a moment.)
  * - No function reads or writes out of bounds or after a free, and each function returns.
  *
  * Nobody runs on a node that is not in the tree, and a key that has left it never comes again: these are laws over
@@ -100,10 +108,11 @@
  * - malloc(), realloc() and free() belong to one allocator, which aligns to at least 8 bytes. No function is called in
  *   a signal handler, or between fork() and exec() in a program with threads.
  * - The processor has at least level x86-64-v2 (SSSE3 and SSE4.1 are used).
- * - If kt_enter() has returned -ENODEV, or kt_leave(), kt_break(), kt_clear() or kt_delete() has returned 1, wake the
- *   threads that wait in a removal or a hiding. The _wake helpers do so; kt_delete() has none. (A removal needs a hold
- *   for a moment, so if a node has the maximum of holds, it waits until kt_clear() has released one.) A looker is a hold
- *   of the root, which nobody removes.
+ * - If kt_enter() or kt_pass_enter() has returned -ENODEV, kt_gate() -ENODEV or -ENOMEM, or kt_leave(), kt_break(),
+ *   kt_pass_leave(), kt_shut(), kt_clear() or kt_delete() 1, wake the threads that wait in a removal, a hiding or
+ *   kt_shut_wait(). The _wake helpers do so; kt_delete() has none. (A removal needs a hold for a moment, so if a
+ *   node has the maximum of holds, it waits until kt_clear() has released one.) A looker is a hold of the root, which
+ *   nobody removes.
  * - After -EAGAIN of kt_hide(), call it again on that file until it returns 0, or call kt_unhide() or kt_remove():
  *   until then the tree cannot be freed. A callback that waits until its own file is hidden breaks its protection
  *   first. If two threads hide one file, the first kt_unhide() shows it for both, so they agree on who calls it;
@@ -139,6 +148,8 @@
 #define KT_SLOTS_MAX 1048576
 #define KT_HOLDS_MAX 65535
 #define KT_NAME_MAX 255
+/* The maximum of lanes of a gate. */
+#define KT_LANES_MAX 65535
 /* The maximum of bytes in a path with this number of names. For a link's text, pass the number of names in the link's
  * path and its target's path together. No text, name or path ends with a zero byte, and -ERANGE gives no length. */
 #define KT_PATH_MAX(names) ((size_t)(names) * (KT_NAME_MAX + 1))
@@ -214,7 +225,8 @@ KT_CALL(1) int32_t kt_new(void **at);
  * call of that callback. Returns 0, or 1: wake the threads that wait in a removal or a hiding. It returns 1 if one may
  * be waiting for the end of the call, and if the node had the maximum of holds until now. -EBUSY, and nothing is
  * freed: it is a tree with a file for which kt_hide() has returned -EAGAIN and not 0 since; call kt_hide(), kt_unhide()
- * or kt_remove() on that file until it returns 0.
+ * or kt_remove() on that file until it returns 0. Or it is a gate, for which kt_shut() has not returned 0 or 1; or a
+ * pass that is inside, which kt_pass_leave() ends.
  *
  * The holds of a freed tree stay valid. They can enter a node that was live, or hidden (the tree shows hidden files
  * when it is freed). They can never enter a node that was marked for removal or was not activated. */
@@ -397,6 +409,34 @@ KT_STEP(1) int32_t kt_break(struct kt_handle *call);
 /* Takes the protection again, whatever became of the node (kernfs_unbreak_active_protection). 0. "Freeing
  * what callbacks use" above says what the callback may use after it. */
 KT_STEP(1) int32_t kt_restore(struct kt_handle *call);
+
+/* Makes a gate of a hold's node, for an object that many threads call (percpu_ref_init): it enters by the hold as
+ * kt_enter() does, and the gate keeps that call. `hold` is the gate then. `lanes`, 1 to KT_LANES_MAX: how many threads
+ * can call without a shared cache line; each lane takes 64 bytes. `pass`, which has nothing behind it, gets the first
+ * pass, by lane 0. While the gate is open, a removal or a hiding of the node returns -EAGAIN. 0, and in this order:
+ * -EINVAL (these lanes, something is behind `pass`, or there is no hold: a call and an open file are none), -ENODEV as
+ * for kt_enter(), -ENOMEM. */
+KT_CALL(1, 3) int32_t kt_gate(struct kt_handle *hold, uint32_t lanes, struct kt_handle *pass);
+
+/* Another pass of a pass's gate, behind a handle with nothing behind it, for another thread: by the lane of this
+ * number, modulo the number of lanes. A pass does not keep the gate open, and may outlive it. 0, and in this order: -EINVAL
+ * (something is behind the other handle, or there is no pass that is outside), -EMFILE (the gate has had 2^32 passes),
+ * -ENOMEM. */
+KT_CALL(1, 3) int32_t kt_pass(struct kt_handle *pass, uint32_t lane, struct kt_handle *other);
+
+/* Before a callback (percpu_ref_tryget_live). 0: the pass is inside, and kt_shut() waits for it. -ENODEV: the gate is
+ * shut, for good; wake the threads that wait. -EINVAL: there is no pass, or it is inside. */
+KT_CALL(1) int32_t kt_pass_enter(struct kt_handle *pass);
+
+/* After the callback (percpu_ref_put): the pass is outside again. 0, or 1: the gate is shut; wake the threads that
+ * wait. -EINVAL: there is no pass that is inside. */
+KT_STEP(1) int32_t kt_pass_leave(struct kt_handle *pass);
+
+/* Shuts a gate (percpu_ref_kill), as far as it can without waiting: at once kt_pass_enter() fails, by any pass. 0, or 1
+ * as kt_leave(): nobody is inside, and nobody ever enters; the gate's call is left, and the handle has the hold again.
+ * -EAGAIN: the gate is shut, and somebody is inside; call it again when a pass was left (kt_shut_wait() does). -EINVAL:
+ * there is no gate. */
+KT_CALL(1) int32_t kt_shut(struct kt_handle *gate);
 
 /* Raises the event number of a post's slot (kernfs_notify), even if the node is gone. 0, -EOVERFLOW (the number is
  * 2^64 - 1). The program wakes the threads that poll. */

@@ -356,6 +356,48 @@ static inline int32_t kt_begin_read_told(struct kt_handle *file, uint64_t offset
     return kt_entered_told(file, kt_begin_read(kt_used(file), offset), 1);
 }
 
+/* A pass is inside the nodes that the hold of its gate holds. */
+KT_CALL(1, 3)
+static inline int32_t kt_gate_told(struct kt_handle *hold, uint32_t lanes, struct kt_handle *pass)
+{
+    int32_t answer = kt_gate(kt_used(hold), lanes, kt_used(pass));
+    if (!answer)
+        kt_told_dup(hold->at, pass->at);
+    return answer;
+}
+
+KT_CALL(1, 3)
+static inline int32_t kt_pass_told(struct kt_handle *pass, uint32_t lane, struct kt_handle *other)
+{
+    int32_t answer = kt_pass(kt_used(pass), lane, kt_used(other));
+    if (!answer)
+        kt_told_dup(pass->at, other->at);
+    return answer;
+}
+
+KT_CALL(1)
+static inline int32_t kt_pass_enter_told(struct kt_handle *pass)
+{
+    return kt_entered_told(pass, kt_pass_enter(kt_used(pass)), 0);
+}
+
+static inline int32_t kt_pass_leave_told(struct kt_handle *pass)
+{
+    kt_touch(pass->at);
+    kt_order_left(pass->at);
+    kt_told_release(pass->at);
+    return kt_pass_leave(pass);
+}
+
+KT_CALL(1)
+static inline int32_t kt_shut_told(struct kt_handle *gate)
+{
+    int32_t answer = kt_shut(kt_used(gate));
+    if (answer >= 0)
+        kt_told_closed(gate->at);
+    return answer;
+}
+
 #define kt_new kt_new_told
 #define kt_create_root kt_create_root_told
 #define kt_create_root_with_looks kt_create_root_with_looks_told
@@ -389,6 +431,11 @@ static inline int32_t kt_begin_read_told(struct kt_handle *file, uint64_t offset
 #define kt_leave kt_leave_told
 #define kt_break kt_break_told
 #define kt_enter kt_enter_told
+#define kt_gate kt_gate_told
+#define kt_pass kt_pass_told
+#define kt_pass_enter kt_pass_enter_told
+#define kt_pass_leave kt_pass_leave_told
+#define kt_shut kt_shut_told
 #define kt_begin_read kt_begin_read_told
 #define kt_begin_write kt_begin_write_told
 #define kt_root(tree, ...) kt_root(kt_used(tree), __VA_ARGS__)

@@ -150,6 +150,15 @@ KT_UNSEEN void kt_told_acquire(void *at)
         __tsan_acquire(&kt_told.shown[it->nodes[i]]);
 }
 
+/* After a gate is closed, of its handle. */
+KT_UNSEEN void kt_told_closed(void *at)
+{
+    struct kt_told_handle *it = kt_told_find(at, false);
+    __tsan_acquire(KT_LEFT);
+    for (unsigned i = 0; it && i < it->count; i++)
+        __tsan_acquire(&kt_told.left[it->nodes[i]]);
+}
+
 /* After a removal or a hiding is over, and before a node is shown. */
 static inline void kt_told_gone(const void *tree, struct kt_key key)
 {
@@ -181,6 +190,7 @@ static inline void kt_told_hold(const struct kt_handle *tree, struct kt_key key,
 static inline void kt_told_dup(void *hold, void *other) { (void)hold, (void)other; }
 static inline void kt_told_release(void *at) { (void)at; }
 static inline void kt_told_acquire(void *at) { (void)at; }
+static inline void kt_told_closed(void *at) { (void)at; }
 static inline void kt_told_gone(const void *tree, struct kt_key key) { (void)tree, (void)key; }
 static inline void kt_told_shown(const void *tree, struct kt_key key) { (void)tree, (void)key; }
 static inline void kt_told_make_one(const void *tree) { (void)tree; }

@@ -348,4 +348,6 @@ static inline int32_t kt_poll(struct kt_handle *file, struct kt_lock *lock)
     return changed;
 }
 
+#include "kt_gates.h"
+
 #endif /* KT_WAIT_H */

@@ -1,7 +1,7 @@
 /* SPDX-License-Identifier: MIT OR Apache-2.0 */
 /* What kt_enter() and kt_leave() cost beside two additions on an atomic word, with one thread and with four. Each of the
- * four has its own node, and their handles lie side by side in an array. With an argument: status 1 if either takes more
- * than that many times as long. Processor time counts, and the best of 15 rounds: so other work on the machine does not.
+ * four has its own node, and their handles lie side by side in an array. So it is for kt_pass_enter() and
+ * kt_pass_leave(), by passes of one node. With an argument: status 1 if either takes more than that many times as long. Processor time counts, and the best of 15 rounds: so other work on the machine does not.
  * With fewer than four processors the four threads are left out, and the program says so. */
 #define _GNU_SOURCE
 #include <kernfs_tree.h>
@@ -14,7 +14,7 @@
 
 enum { TURNS = 200000, ROUNDS = 15, THREADS = 4 };
 
-static struct kt_handle tree, holds[THREADS];
+static struct kt_handle tree, holds[THREADS], gate, passes[THREADS];
 static _Alignas(128) struct {
     atomic_ulong word;
     char rest[120];
@@ -42,6 +42,18 @@ static void enter_and_leave(int number)
     for (int i = 0; i < TURNS; i++) {
         answers |= kt_enter(hold);
         answers |= kt_leave(hold);
+    }
+    if (answers)
+        exit(2);
+}
+
+static void pass_and_leave(int number)
+{
+    struct kt_handle *pass = &passes[number];
+    int32_t answers = 0;
+    for (int i = 0; i < TURNS; i++) {
+        answers |= kt_pass_enter(pass);
+        answers |= kt_pass_leave(pass);
     }
     if (answers)
         exit(2);
@@ -90,13 +102,31 @@ static double best(int count, void (*what)(int number))
     return least;
 }
 
-/* Prints both figures. Returns how many times as long an enter and a leave take. */
+/* Prints the figures. Returns how many times as long an enter and a leave take, by a hold or by a pass. */
 static double compare(int count)
 {
-    double ours = best(count, enter_and_leave), theirs = best(count, add);
-    printf("%d thread%s: enter and leave %.1f ns, two additions %.1f ns, %.2f times\n", count, count == 1 ? "" : "s", ours,
-           theirs, ours / theirs);
-    return ours / theirs;
+    double ours = best(count, enter_and_leave), passing = best(count, pass_and_leave), theirs = best(count, add);
+    const char *more = count == 1 ? "" : "s";
+    printf("%d thread%s: enter and leave %.1f ns, two additions %.1f ns, %.2f times\n", count, more, ours, theirs,
+           ours / theirs);
+    printf("%d thread%s: enter and leave by a pass %.1f ns, %.2f times\n", count, more, passing, passing / theirs);
+    return (ours > passing ? ours : passing) / theirs;
+}
+
+/* A gate of the last node, and a pass of it for each thread. */
+static int make_gate(struct kt_key key)
+{
+    if (kt_new(&gate.at) || kt_hold(&tree, key, &gate))
+        return 2;
+    for (int i = 0; i < THREADS; i++)
+        if (kt_new(&passes[i].at))
+            return 2;
+    if (kt_gate(&gate, THREADS, &passes[0]))
+        return 2;
+    for (uint32_t i = 1; i < THREADS; i++)
+        if (kt_pass(&passes[0], i, &passes[i]))
+            return 2;
+    return 0;
 }
 
 int main(int count, char **words_given)
@@ -111,6 +141,8 @@ int main(int count, char **words_given)
             kt_hold(&tree, key, &holds[i]))
             return 2;
     }
+    if (make_gate(key))
+        return 2;
     int is_slow = compare(1) > most;
     if (sysconf(_SC_NPROCESSORS_ONLN) < THREADS)
         printf("4 threads: left out, since there are fewer than 4 processors\n");

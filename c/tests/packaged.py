@@ -7,7 +7,7 @@ import shlex
 import sys
 
 # Functions of the headers that are no program's to call.
-INNER = {"kt_dump_line", "kt_unlock_of", "kt_end_of", "kt_show_into", "kt_until_done", "kt_time_in"}
+INNER = {"kt_dump_line", "kt_unlock_of", "kt_end_of", "kt_show_into", "kt_until_done", "kt_time_in", "kt_shut_locked"}
 PROTOTYPE = re.compile(
     r"^(?:KT_\w+(?:\([\d, ]*\))?\s+)*(?:static inline )?((?:const char|struct kt_key|\w+) \*?(kt_\w+)\([^)]*\))\s*[;{]", re.M
 )
@@ -149,6 +149,7 @@ def has_pages(run, here, room):
         ("kernfs_tree.h", "kernfs_tree.3"),
         ("kt_tell.h", "kernfs_tree.3"),
         ("kt_wait.h", "kernfs_tree.3"),
+        ("kt_gates.h", "kernfs_tree.3"),
         ("kt_live.h", "kt_live.3"),
         ("kt_bind.h", "kernfs_tree-bindings.3"),
     ):

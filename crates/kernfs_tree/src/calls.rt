@@ -3,7 +3,7 @@
 ghost use Rattle.std.specs.Prelude.{◌≡◌, ◌≢◌, ◌⊎◌, ◌<◌, ◌≤◌, pos, negsuc, true, false, IfSome, IsSome};
 ghost use Rattle.kf_core.specs.declared.key.Node.TheVariants as kind;
 ghost use Rattle.kf_handles.specs.declared.object.Object.TheVariants as behind;
-ghost use Rattle.kf_handles.specs.Tasks.{HasHidingIn, HasNoHidingIn};
+ghost use Rattle.kf_handles.specs.Tasks.{IsInUse, IsNotInUse};
 ghost use Rattle.kf_handles.specs.declared.questions.Question.TheVariants as asks;
 ghost use Rattle.kf_handles.specs.Answers.{IsAsBefore, ToldWhy};
 ghost use Rattle.kf_handles.specs.Calls.{AreLimits, key_in, CountedIn, CreatedIn, IsNewTree, HoldsNode, ActivatedIn, MovedIn, CompactedIn, IsNothing, is_nothing};
@@ -32,26 +32,28 @@ pub extern "C" fn kt_new(alloc: Global, out: &mut KtGiven) -> i32
     kf_handles::make(alloc, out)
 }
 
-/// Frees a handle and what lies behind it; not of a tree with a hidden file in which somebody may be.
+/// Frees a handle and what lies behind it; not of a tree with a hidden file in which somebody may be, of an
+/// open gate, and of a pass that is inside.
 #[unsafe(no_mangle)]
 pub extern "C" fn kt_delete(handle: KtHandle) -> i32
-    ensures gone { (result ≡ pos 0) ⊎ (result ≡ pos 1) → HasNoHidingIn handle.place.object }
+    ensures gone { (result ≡ pos 0) ⊎ (result ≡ pos 1) → IsNotInUse handle.place.object }
     ensures owed { (result ≡ pos 0) ⊎ (result ≡ pos 1) → WakeOwed handle.place.seat result }
     ensures busy { result ≢ pos 0 → result ≢ pos 1 →
-        (result ≡ negsuc 15) × HasHidingIn handle.place.object }
+        (result ≡ negsuc 15) × IsInUse handle.place.object }
 {
     kf_handles::delete(handle)
 }
 
 /// Frees what lies behind a handle: a hold is released, and a call ended first. 1 if a removal or a hiding
-/// may wait for that. A tree with a hidden file in which somebody may be stays.
+/// may wait for that. A tree with a hidden file in which somebody may be stays, and so do an open gate and a
+/// pass that is inside.
 #[unsafe(no_mangle)]
 pub extern "C" fn kt_clear(handle: &mut KtHandle) -> i32
     ensures empty { (result ≡ pos 0) ⊎ (result ≡ pos 1) →
-        IsNothing handle.new.place × HasNoHidingIn handle.old.place.object }
+        IsNothing handle.new.place × IsNotInUse handle.old.place.object }
     ensures owed { (result ≡ pos 0) ⊎ (result ≡ pos 1) → WakeOwed handle.old.place.seat result }
     ensures busy { result ≢ pos 0 → result ≢ pos 1 → (result ≡ negsuc 15)
-        × HasHidingIn handle.old.place.object × (handle.new.place ≡ handle.old.place) }
+        × IsInUse handle.old.place.object × (handle.new.place ≡ handle.old.place) }
 {
     kf_handles::clear(handle)
 }

@@ -89,10 +89,14 @@ step_told what (behind.Tree old) behind.Empty why number (same, never) e = cc
 step_told what (behind.Tree old) (behind.Post new) why number (same, never) e = cc
 step_told what (behind.Tree old) (behind.File new) why number (same, never) e = cc
 step_told what (behind.Tree old) (behind.Looker new) why number (same, never) e = cc
+step_told what (behind.Tree old) (behind.Gate new) why number (same, never) e = cc
+step_told what (behind.Tree old) (behind.Pass new) why number (same, never) e = cc
 step_told what behind.Empty new why number (same, never) e = cc
 step_told what (behind.Post old) new why number (same, never) e = cc
 step_told what (behind.File old) new why number (same, never) e = cc
 step_told what (behind.Looker old) new why number (same, never) e = cc
+step_told what (behind.Gate old) new why number (same, never) e = cc
+step_told what (behind.Pass old) new why number (same, never) e = cc
 
 -- a looker was made of a tree, and then there was no memory
 pub looker_wants_memory : (old new : Object) (looker : PathHolderState) → IsLookerIn old looker → IsAsBefore old new
@@ -102,7 +106,11 @@ looker_wants_memory (behind.Tree old) behind.Empty looker made same = cc
 looker_wants_memory (behind.Tree old) (behind.Post new) looker made same = cc
 looker_wants_memory (behind.Tree old) (behind.File new) looker made same = cc
 looker_wants_memory (behind.Tree old) (behind.Looker new) looker made same = cc
+looker_wants_memory (behind.Tree old) (behind.Gate new) looker made same = cc
+looker_wants_memory (behind.Tree old) (behind.Pass new) looker made same = cc
 looker_wants_memory behind.Empty new looker never same = absurd never
 looker_wants_memory (behind.Post old) new looker never same = absurd never
 looker_wants_memory (behind.File old) new looker never same = absurd never
 looker_wants_memory (behind.Looker old) new looker never same = absurd never
+looker_wants_memory (behind.Gate old) new looker never same = absurd never
+looker_wants_memory (behind.Pass old) new looker never same = absurd never

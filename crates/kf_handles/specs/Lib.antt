@@ -14,3 +14,4 @@ pub mod Taken
 pub mod Files
 pub mod Another
 pub mod Lookers
+pub mod Gating

@@ -3,6 +3,8 @@ use Rattle.std.specs.Prelude.{◌≡◌, ℤ, pos, negsuc, neg_ℤ, Bool, true, 
 use Rattle.kf_core.specs.declared.refusal.Refusal.{Refusal}
 use Rattle.kf_core.specs.Refusals.{number_of}
 use Rattle.kf_words.specs.Callers.{TableId, Handle}
+use Rattle.kf_passes.specs.Gates.{IsClosed, IsOpen}
+use Rattle.kf_passes.specs.Ways.{IsInside, IsOutside}
 use Rattle.kf_shared.specs.Locked.{Locked, Unchanged}
 use Rattle.kf_handles.specs.declared.object.Object.{Object}
 use Rattle.kf_handles.specs.declared.object.Object.TheVariants as behind
@@ -54,15 +56,19 @@ StepToldWhy what (behind.Tree old) (behind.Tree new) number = (why : Refusal)
     new.value.hidden (told.Refused why)
 StepToldWhy what old new number = number ≡ negsuc 21
 
--- it is a tree with a hidden file in which somebody may be
-abbrev pub HasHidingIn : Object → Type 0
-HasHidingIn (behind.Tree tree) = HasHiding tree.value.hidden
-HasHidingIn other = ⊥
+-- it is a tree with a hidden file in which somebody may be, an open gate, or a pass that is inside
+abbrev pub IsInUse : Object → Type 0
+IsInUse (behind.Tree tree) = HasHiding tree.value.hidden
+IsInUse (behind.Gate gate) = IsOpen gate.value
+IsInUse (behind.Pass way) = IsInside way
+IsInUse other = ⊥
 
--- it is no such tree
-abbrev pub HasNoHidingIn : Object → Type 0
-HasNoHidingIn (behind.Tree tree) = HasNoHiding tree.value.hidden
-HasNoHidingIn other = Unit {0}
+-- it is none of these
+abbrev pub IsNotInUse : Object → Type 0
+IsNotInUse (behind.Tree tree) = HasNoHiding tree.value.hidden
+IsNotInUse (behind.Gate gate) = IsClosed gate.value
+IsNotInUse (behind.Pass way) = IsOutside way
+IsNotInUse other = Unit {0}
 
 -- the node is being removed, and its key is linked in the tree afterwards, or not
 abbrev pub IsRemovingIn : Object → Object → KtKey → Bool → Type 0

@@ -1,6 +1,6 @@
 //! The attribute tree behind handles, for programs in C: what the calls of the static library `kernfs_tree`
-//! do. Behind each handle lies nothing, a tree, a hold of a node or a call of one, a post, an open file, or a
-//! looker.
+//! do. Behind each handle lies nothing, a tree, a hold of a node or a call of one, a post, an open file, a
+//! looker, a gate, or a pass.
 #![tactic(auto)]
 
 mod another;
@@ -9,6 +9,7 @@ mod counting;
 mod errors;
 mod file;
 mod file_steps;
+mod gating;
 mod handle;
 mod hiding;
 mod holds;
@@ -32,6 +33,7 @@ mod tree_looker;
 pub use another::dup;
 pub use counting::{KtCounts, counts};
 pub use file_steps::{begin_read, begin_write, changed, copy, open, shown};
+pub use gating::{gate, pass, pass_enter, pass_leave, shut};
 pub use handle::{KtGiven, KtHandle};
 pub use looking::{look, looker, pin};
 pub use numbers::{notify, number, post};

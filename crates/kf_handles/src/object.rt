@@ -3,13 +3,14 @@ ghost use Rattle.std.specs.Prelude.{◌≡◌, true, false};
 ghost use Rattle.kf_handles.specs.Calls.{IsNothing, is_nothing};
 ghost use Rattle.kf_handles.specs.Files.{IsRunning};
 ghost use Rattle.kf_handles.specs.Steps.{EndOwed, IsNotRunning};
-ghost use Rattle.kf_handles.specs.Tasks.{HasHidingIn, HasNoHidingIn};
+ghost use Rattle.kf_handles.specs.Tasks.{IsInUse, IsNotInUse};
 
 use crate::file::File;
 use crate::holds::{Held, Inside};
 use crate::tree::Tree;
 use crate::tree_looker::TreeLooker;
 use kf_notify::Post;
+use kf_passes::{Gate, Way};
 
 /// A hold of a node, or a call of one. A call that a read began, for a show, is a separate variant: a field
 /// more would make each step slower.
@@ -56,6 +57,8 @@ pub enum Object {
     Post(Post),
     File(Box<File>),
     Looker(Box<TreeLooker>),
+    Gate(Box<Gate>),
+    Pass(Way),
 }
 
 /// A seat and an object in their own memory. The words after them keep them off the cache lines of the
@@ -91,13 +94,16 @@ impl Place {
         }
     }
 
-    /// Whether it is a tree with a hidden file in which somebody may be.
-    pub fn is_hiding(&self) -> bool
-        ensures hiding { result ≡ true → HasHidingIn self.now.object }
-        ensures none { result ≡ false → HasNoHidingIn self.now.object }
+    /// Whether it is not to be dropped: a tree with a hidden file in which somebody may be, an open gate, or
+    /// a pass that is inside.
+    pub fn is_in_use(&self) -> bool
+        ensures used { result ≡ true → IsInUse self.now.object }
+        ensures none { result ≡ false → IsNotInUse self.now.object }
     {
         match &self.object {
             Object::Tree(tree) => tree.is_hiding(),
+            Object::Gate(gate) => gate.is_open(),
+            Object::Pass(way) => way.is_inside(),
             _ => false,
         }
     }

@@ -1,6 +1,6 @@
 //! What the calls of a program do to what lies behind its handles, and the numbers that they return.
 ghost use Rattle.std.specs.Prelude.{◌≡◌, ◌≢◌, ◌⊎◌, ◌<◌, ◌≤◌, true, false, pos, negsuc, IfSome, IsSome};
-ghost use Rattle.kf_handles.specs.Tasks.{HasHidingIn, HasNoHidingIn};
+ghost use Rattle.kf_handles.specs.Tasks.{IsInUse, IsNotInUse};
 ghost use Rattle.kf_handles.specs.Answers.{TreeAnswered, AnsweredBehind, OfTrees, IsAsBefore, ToldWhy, is_change, is_naming};
 ghost use Rattle.kf_handles.specs.Calls.{AreLimits, IsNewTree, CreatedIn, HoldsNode, ClaimedIn, IsNothing, is_nothing, key_in, stat_in_c};
 ghost use Rattle.kf_handles.specs.Steps.{WakeOwed};
@@ -317,12 +317,12 @@ pub fn make_tree(alloc: Global, handle: &mut KtHandle, slots: u32, holds: u32, l
 
 fn end(place: &mut Place) -> i32
     ensures empty { (result ≡ pos 0) ⊎ (result ≡ pos 1)
-        → IsNothing place.new × HasNoHidingIn place.old.object }
+        → IsNothing place.new × IsNotInUse place.old.object }
     ensures owed { (result ≡ pos 0) ⊎ (result ≡ pos 1) → WakeOwed place.old.seat result }
     ensures busy { result ≢ pos 0 → result ≢ pos 1 →
-        (result ≡ negsuc 15) × HasHidingIn place.old.object × (place.new ≡ place.old) }
+        (result ≡ negsuc 15) × IsInUse place.old.object × (place.new ≡ place.old) }
 {
-    if place.is_hiding() {
+    if place.is_in_use() {
         return BUSY;
     }
     place.object = Object::Empty;
@@ -333,14 +333,14 @@ fn end(place: &mut Place) -> i32
     }
 }
 
-/// Drops what lies behind a handle: 1 if a sleeper may wait for that, and -EBUSY of a tree with
-/// a hidden file in which somebody may be.
+/// Drops what lies behind a handle: 1 if a sleeper may wait for that, and -EBUSY of a tree with a hidden file
+/// in which somebody may be, of an open gate, and of a pass that is inside.
 pub fn clear(handle: &mut KtHandle) -> i32
     ensures empty { (result ≡ pos 0) ⊎ (result ≡ pos 1) →
-        IsNothing handle.new.place × HasNoHidingIn handle.old.place.object }
+        IsNothing handle.new.place × IsNotInUse handle.old.place.object }
     ensures owed { (result ≡ pos 0) ⊎ (result ≡ pos 1) → WakeOwed handle.old.place.seat result }
     ensures busy { result ≢ pos 0 → result ≢ pos 1 → (result ≡ negsuc 15)
-        × HasHidingIn handle.old.place.object × (handle.new.place ≡ handle.old.place) }
+        × IsInUse handle.old.place.object × (handle.new.place ≡ handle.old.place) }
 {
     end(handle.place_mut())
 }
@@ -348,10 +348,10 @@ pub fn clear(handle: &mut KtHandle) -> i32
 /// Frees a handle and drops what lies behind it, as `clear` does. If that is refused the handle stays
 /// the program's.
 pub fn delete(handle: KtHandle) -> i32
-    ensures gone { (result ≡ pos 0) ⊎ (result ≡ pos 1) → HasNoHidingIn handle.place.object }
+    ensures gone { (result ≡ pos 0) ⊎ (result ≡ pos 1) → IsNotInUse handle.place.object }
     ensures owed { (result ≡ pos 0) ⊎ (result ≡ pos 1) → WakeOwed handle.place.seat result }
     ensures busy { result ≢ pos 0 → result ≢ pos 1 →
-        (result ≡ negsuc 15) × HasHidingIn handle.place.object }
+        (result ≡ negsuc 15) × IsInUse handle.place.object }
 {
     let mut boxed = handle.into_box();
     let answer = end(boxed.as_mut());

@@ -11,7 +11,7 @@ use kf_core::Phase;
 use kf_words::Wake;
 
 /// 1 if a sleeper may wait for the step that was made.
-fn wake_status(wake: Wake) -> i32
+pub fn wake_status(wake: Wake) -> i32
     ensures value { result ≡ pos (if is_wanted wake then 1 else 0) }
     ensures range { (result ≡ pos 0) ⊎ (result ≡ pos 1) }
 {
@@ -22,7 +22,7 @@ fn wake_status(wake: Wake) -> i32
 }
 
 /// What -ENODEV says after a refused try, whatever its undoing owes: the caller of C wakes those who wait.
-fn no_device(wake: Wake) -> i32
+pub fn no_device(wake: Wake) -> i32
     ensures { result ≡ negsuc 18 }
 {
     match wake {

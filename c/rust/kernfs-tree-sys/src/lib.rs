@@ -111,6 +111,11 @@ extern "C" {
     pub fn kt_leave(call: *mut kt_handle) -> i32;
     pub fn kt_break(call: *mut kt_handle) -> i32;
     pub fn kt_restore(call: *mut kt_handle) -> i32;
+    pub fn kt_gate(hold: *mut kt_handle, lanes: u32, pass: *mut kt_handle) -> i32;
+    pub fn kt_pass(pass: *mut kt_handle, lane: u32, other: *mut kt_handle) -> i32;
+    pub fn kt_pass_enter(pass: *mut kt_handle) -> i32;
+    pub fn kt_pass_leave(pass: *mut kt_handle) -> i32;
+    pub fn kt_shut(gate: *mut kt_handle) -> i32;
     pub fn kt_notify(post: *mut kt_handle) -> i32;
     pub fn kt_event(post: *mut kt_handle, out: *mut u64) -> i32;
     pub fn kt_begin_read(file: *mut kt_handle, offset: u64) -> i32;
