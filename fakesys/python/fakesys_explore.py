@@ -6,10 +6,11 @@ it makes: look-ups, opens, reads, listings .. Then it runs COMMAND once for each
 disappears or is replaced, or a file fails or has another text. A program that is killed by a signal, panics, hangs, or
 exits with a status that no calm run had, is a find. Each find has one line `at ..` that repeats it. The same command
 finds the same in a second run. The status is 0 if nothing is found, 1 if something is; 2 for a usage error; 125 if
-nothing can be mounted."""
+nothing can be mounted. Ctrl-C ends the search, which then reports what it found (130 if that is nothing)."""
 import argparse
 import math
 import os
+import signal
 import time
 
 import fakesys
@@ -21,9 +22,11 @@ from fakesys_rooms import Rooms
 from fakesys_verdict import Ending, Verdict
 
 FOUND = 1
+INTERRUPTED = 128 + signal.SIGINT
 RUNS = 1000
 MOST_TRIED = 3  # points of a find that are repeated until one does it again
 MOST_CALM = 60  # calm runs that look for a status
+TIMES_CALM = 10  # a run may take this many times as long as the slowest calm one, so that a busy machine makes no find
 
 
 class Find:
@@ -54,8 +57,9 @@ class Search:
 
     def see_steps(self):
         """Runs the command twice with nothing wrong. Its steps are those that both runs made."""
-        self.calm_run([])
-        first, second = (self.calm_run([], steps=True) for _ in range(2))
+        calm = [self.calm_run([]), self.calm_run([], steps=True), self.calm_run([], steps=True)]
+        self.rooms.patience = max(self.options.hang, TIMES_CALM * max(it["seconds"] for it in calm))
+        _, first, second = calm
         made = {tuple(it[:3]) for it in second["steps"]}
         steps = [Step(*it[:3], tuple(it[3])) for it in first["steps"]]
         self.steps = [step for step in steps if step.name() in made]
@@ -195,11 +199,13 @@ def explore(options, parser):
         if options.at:
             status = try_at(options, search)
         else:
+            if not options.ignores_interrupts:
+                signal.signal(signal.SIGINT, rooms.stop)
             points = search.explore(lambda find: fakesys_report.show(options, find))
             report = fakesys_report.Report(options, points, search.tried, search.finds)
             report.print()
             files.write(report)
-            status = FOUND if report.failing() else 0
+            status = FOUND if report.failing() else INTERRUPTED if rooms.is_stopped else 0
         rooms.close()
     return status
 
@@ -246,7 +252,7 @@ def add_words(words):
     add("--poke", metavar="LINE", help="COMMAND is a daemon, and this shell line queries it: what is tried is one query")
     add("--device", action="append", metavar="PATH", help="a directory that disappears (default: each device)")
     add("--actions", type=actions_of, default=ACTIONS, metavar="NAME,..", help=f"of {','.join(ACTIONS)} (default: all)")
-    add("--hang", type=float, default=10, help="seconds that a run may take (default 10)")
+    add("--hang", type=float, default=10, help="seconds that a run may take (default 10; at least ten times a calm run)")
     add("--calm", type=float, default=10, help="seconds until a daemon's first query must succeed (default 10)")
     add("--ok", type=statuses_of, default=[0], metavar="N,..", help="statuses that are no fault, besides those of calm runs")
     add("--known", metavar="FILE", help="finds that are reported and do not count: their `at` lines")

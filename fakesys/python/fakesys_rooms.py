@@ -28,6 +28,7 @@ class Program:
 
     def __init__(self, options, tree_daemon):
         self.options, self.tree_daemon, self.process, self.seen = options, tree_daemon, None, 0
+        self.patience = options.hang  # seconds
 
     def start(self):
         self.output = os.memfd_create("output")
@@ -67,9 +68,9 @@ class Program:
         """Runs it once. If that takes too long, the tree is healed, and it gets the same time again. Returns the code, or
         None if it hung, and the output."""
         self.start()
-        if self.wait(self.options.hang) is None:
+        if self.wait(self.patience) is None:
             heal()
-            self.wait(self.options.hang)
+            self.wait(self.patience)
         code, said = self.process.returncode, self.said()
         self.end()
         return code, said
@@ -99,7 +100,7 @@ class Program:
             start_new_session=True,
         )
         try:
-            return poke.wait(self.options.hang)
+            return poke.wait(self.patience)
         except subprocess.TimeoutExpired:
             with contextlib.suppress(ProcessLookupError):
                 os.killpg(poke.pid, signal.SIGKILL)
@@ -158,11 +159,13 @@ class Room:
 
     def run_under(self, lines, job):
         self.tree.give(self.trace_line)
-        heal = lambda: self.heal(lines)
+        self.program.patience = job["patience"]
+        heal, start = lambda: self.heal(lines), time.monotonic()
         if self.options.poke and not self.program.process:
             self.program.start()
             self.program.wait(SHORTLY)
         code, said = (self.program.poke if self.options.poke else self.program.run)(heal)
+        seconds = time.monotonic() - start
         self.tree.give("trace off")
         text = os.pread(self.trace, os.fstat(self.trace).st_size, 0).decode(errors="surrogateescape")
         trace = Trace(text)
@@ -172,6 +175,7 @@ class Room:
         return {
             "code": code,
             "said": said,
+            "seconds": seconds,
             "is_reached": trace.is_reached,
             "steps": trace.with_calls() if job.get("steps") else [],
         }
@@ -197,6 +201,8 @@ def live_in(options, place, channel):
     """What process 1 of a room does."""
     room = Room(options, place)
     os.setsid()
+    if not options.ignores_interrupts:
+        signal.signal(signal.SIGINT, signal.SIG_DFL)  # for the command: the terminal reaches it no longer
     try:
         return room.serve(channel)
     except fakesys_run.Refused as problem:
@@ -222,8 +228,10 @@ class Rooms:
     """Several rooms for one command, each in a process."""
 
     def __init__(self, options):
-        self.options, self.rooms = options, []
+        self.options, self.rooms, self.patience = options, [], options.hang
         self.busy, self.heard = {}, {}  # the job of each room that has one; what happened in jobs that ended
+        self.is_stopped = False
+        options.ignores_interrupts = signal.getsignal(signal.SIGINT) == signal.SIG_IGN
         self.open()
 
     def open(self):
@@ -235,6 +243,7 @@ class Rooms:
             for room in self.rooms:
                 room.close()  # or that room would never see its end
             fakesys.system_call("prctl", END_WITH_PARENT, signal.SIGKILL)
+            signal.signal(signal.SIGINT, signal.SIG_IGN)  # Ctrl-C is for the main process
             os._exit(self.live(theirs))
         theirs.close()
         lines = ours.makefile("rw", encoding="utf-8", errors="surrogateescape")
@@ -269,7 +278,7 @@ class Rooms:
         """Runs the command under these lines in the first room. If that room has a job, it ends it first."""
         if self.rooms[0].child in self.busy:
             self.finish(self.rooms[0])
-        Room.say(self.rooms[0].lines, {"lines": lines, **more})
+        Room.say(self.rooms[0].lines, {"lines": lines, "patience": self.patience, **more})
         return self.hear(self.rooms[0])
 
     def run_all(self, jobs, count, until):
@@ -302,11 +311,16 @@ class Rooms:
             if room.socket in ready:
                 self.finish(room)
 
+    def stop(self, number, _):
+        """Handles a signal: no further job of run_all() begins. A second signal ends the program."""
+        self.is_stopped = True
+        signal.signal(number, signal.SIG_DFL)
+
     def hand_out(self, room, waiting, until):
-        job = next(waiting, None) if time.monotonic() < until else None
+        job = next(waiting, None) if time.monotonic() < until and not self.is_stopped else None
         if job:
             self.busy[room.child] = job[0]
-            Room.say(room.lines, {"lines": job[1]})
+            Room.say(room.lines, {"lines": job[1], "patience": self.patience})
 
     def close(self):
         for room in self.rooms:

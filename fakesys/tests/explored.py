@@ -1,6 +1,6 @@
 # SPDX-License-Identifier: MIT OR Apache-2.0
 """Tests of `fakesys explore` and `fakesys shrink`, which test_tools runs."""
-import json, re, signal, subprocess, sys, xml.etree.ElementTree
+import json, os, re, signal, subprocess, sys, xml.etree.ElementTree
 
 from mounted import must
 from programs import eventually, processes
@@ -70,9 +70,21 @@ def at_once(tools):
         rest = explores.stdout.read()
     must(explores.returncode == 1 and len(runs.read_text()) > 40 and "points" in rest, rest)
     must(re.search(r"^\d+ points end like this one: at ", rest, re.M), rest)
+    interrupted(tools)
     words = tools.command("explore", *SHORT, tools.chip, "--", "sh", "-c", TRUSTING)
     ran = subprocess.run(["sh", "-c", '"$@" | head -1', "sh", *words], capture_output=True, text=True, timeout=PATIENCE, check=False)
     must((ran.stdout, ran.stderr) == ("FOUND: killed by SIGSEGV\n", ""), f"nobody reads on: {ran}")
+
+
+def interrupted(tools):
+    """Ctrl-C ends the search, which reports what it has found."""
+    words = tools.command("explore", *SHORT, tools.chip, "--", "sh", "-c", f"sleep 0.2; {TRUSTING}")
+    with subprocess.Popen(words, stdout=subprocess.PIPE, text=True, start_new_session=True) as explores:
+        first = explores.stdout.readline()
+        os.killpg(explores.pid, signal.SIGINT)
+        rest = explores.stdout.read()
+    points, runs = map(int, re.search(r"^(\d+) points, (\d+) runs, \d+ finds$", rest, re.M).groups())
+    must(explores.returncode == 1 and first == "FOUND: killed by SIGSEGV\n" and runs < points, rest)
 
 
 def reported(tools):
@@ -117,6 +129,9 @@ def judged(tools):
     hangs = f"read name < /sys{CHIP}/name || sleep 986"
     ran = explore(tools, "--actions", "unplug", "--hang", "0.5", "--runs", "3", script=hangs)
     must(ran.returncode == 1 and found_in(ran)[0][0] == "hangs", f"it hangs: {ran}")
+    slow = f"sleep 0.3; [ -e /sys{CHIP}/name ] || sleep 2"
+    ran = explore(tools, "--actions", "unplug", "--hang", "1", "--runs", "3", script=slow)
+    must(ran.returncode == 0 and " 3 runs" in last_line(ran), f"it is slow, also in calm runs: {ran}")
     reader = tools.file("once.py", ONCE)
     ran = tools.run("explore", "--actions", "unplug", "--runs", "8", tools.chip, "--", sys.executable, reader, timeout=PATIENCE)
     must(ran.returncode == 1 and found_in(ran)[0][0].startswith("traceback: FileNotFoundError"), f"a traceback: {ran}")
