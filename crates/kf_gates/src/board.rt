@@ -98,7 +98,7 @@ impl Board {
     }
 
     /// Counts the caller in its lane, and then looks at the gate's word, which it returns.
-    pub(crate) fn knock(&self, seat: &mut GateSeat, lane: u64) -> u64
+    pub(crate) fn knock(&self, seat: &mut GateSeat, lane: u32) -> u64
         requires table { seat.old.table_id ≡ self.now.table.shared.table_id }
         requires lane { lane < self.now.lanes }
         requires outside { IsPass seat.old.me.0 }
@@ -111,7 +111,7 @@ impl Board {
     }
 
     /// Counts the caller no longer, and returns how many were counted in its lane. It wakes nobody.
-    pub(crate) fn step_back(&self, seat: &mut GateSeat, lane: u64) -> u64
+    pub(crate) fn step_back(&self, seat: &mut GateSeat, lane: u32) -> u64
         requires table { seat.old.table_id ≡ self.now.table.shared.table_id }
         requires lane { lane < self.now.lanes }
         requires counts { CountsIn lane seat.old.me.0 }
@@ -123,7 +123,7 @@ impl Board {
     }
 
     /// Counts the caller no longer, and wakes those who sleep on the lane if it was the last.
-    pub(crate) fn step_off(&self, seat: &mut GateSeat, lane: u64)
+    pub(crate) fn step_off(&self, seat: &mut GateSeat, lane: u32)
         requires table { seat.old.table_id ≡ self.now.table.shared.table_id }
         requires lane { lane < self.now.lanes }
         requires counts { CountsIn lane seat.old.me.0 }
@@ -135,7 +135,7 @@ impl Board {
     }
 
     /// Counts the caller no longer, and then looks at the gate's word, which it returns. It wakes nobody.
-    pub(crate) fn step_away(&self, seat: &mut GateSeat, lane: u64) -> u64
+    pub(crate) fn step_away(&self, seat: &mut GateSeat, lane: u32) -> u64
         requires table { seat.old.table_id ≡ self.now.table.shared.table_id }
         requires lane { lane < self.now.lanes }
         requires counts { CountsIn lane seat.old.me.0 }
@@ -147,7 +147,7 @@ impl Board {
     }
 
     /// The same as `step_off`, of a caller that will count itself again.
-    pub(crate) fn break_off(&self, seat: &mut GateSeat, lane: u64)
+    pub(crate) fn break_off(&self, seat: &mut GateSeat, lane: u32)
         requires table { seat.old.table_id ≡ self.now.table.shared.table_id }
         requires lane { lane < self.now.lanes }
         requires inside { (n : ℕ) × (seat.old.me.0 ≡ seat_of.Inside lane n) }
@@ -160,7 +160,7 @@ impl Board {
         self.wake(word, found);
     }
 
-    pub(crate) fn restore(&self, seat: &mut GateSeat, lane: u64)
+    pub(crate) fn restore(&self, seat: &mut GateSeat, lane: u32)
         requires table { seat.old.table_id ≡ self.now.table.shared.table_id }
         requires lane { lane < self.now.lanes }
         requires broken { (n : ℕ) × (seat.old.me.0 ≡ seat_of.Broken lane n) }

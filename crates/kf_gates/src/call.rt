@@ -17,7 +17,7 @@ use std::sync::Arc;
 pub struct GateCall {
     pub(crate) board: Arc<Board>,
     pub(crate) seat: GateSeat,
-    pub(crate) lane: u64,
+    pub(crate) lane: u32,
     pub(crate) number: u64,
     pub(crate) phase: Phase,
 }

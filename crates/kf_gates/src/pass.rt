@@ -15,7 +15,7 @@ use std::sync::Arc;
 pub struct Pass {
     pub(crate) board: Arc<Board>,
     pub(crate) seat: GateSeat,
-    pub(crate) lane: u64,
+    pub(crate) lane: u32,
 }
 
 impl Model for Pass {
@@ -91,7 +91,7 @@ impl Pass {
             return Err(Refusal::NoMemory);
         };
         let seat = board.make_pass(&mut self.seat);
-        let lane = lane % board.lanes;
+        let lane = (lane % board.lanes) as u32;
         Ok(Pass { board, seat, lane })
     }
 }
