@@ -130,8 +130,8 @@ def judged(tools):
     ran = explore(tools, "--actions", "unplug", "--hang", "0.5", "--runs", "3", script=hangs)
     must(ran.returncode == 1 and found_in(ran)[0][0] == "hangs", f"it hangs: {ran}")
     slow = f"sleep 0.3; [ -e /sys{CHIP}/name ] || sleep 2"
-    ran = explore(tools, "--actions", "unplug", "--hang", "1", "--runs", "3", script=slow)
-    must(ran.returncode == 0 and " 3 runs" in last_line(ran), f"it is slow, also in calm runs: {ran}")
+    ran = explore(tools, "--actions", "unplug", "--hang", "1", script=slow)
+    must(ran.returncode == 0 and " 2 runs" in last_line(ran), f"it is slow, also in calm runs: {ran}")
     reader = tools.file("once.py", ONCE)
     ran = tools.run("explore", "--actions", "unplug", "--runs", "8", tools.chip, "--", sys.executable, reader, timeout=PATIENCE)
     must(ran.returncode == 1 and found_in(ran)[0][0].startswith("traceback: FileNotFoundError"), f"a traceback: {ran}")
