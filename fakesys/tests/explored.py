@@ -191,10 +191,13 @@ def shrunk(tools):
     must(ran.returncode == 0 and found_in(ran) and found_in(ran)[0][0] == "killed by SIGSEGV", ran)
     left = few.read_text().split("\n")[:-1]
     must(few.read_text() not in ran.stdout, f"they are not printed too: {ran}")
-    with tools.file("said", "before\n").open("a") as said:
-        ran = tools.run("shrink", "--time", "60", few, tools.chip, "--", "sh", "-c", TRUSTING, stdout=said, capture_output=False,
+    with tools.file("said", "before\n").open("a") as output:
+        ran = tools.run("shrink", "--time", "60", few, tools.chip, "--", "sh", "-c", TRUSTING, stdout=output, capture_output=False,
                         timeout=PATIENCE)
-    must(ran.returncode == 0 and (tools.folder / "said").read_text().startswith("before\n"), f"what was printed stays: {ran}")
+    said = (tools.folder / "said").read_text()
+    must(said.startswith("before\nfakesys shrink: "), f"what was printed stays: {said} {ran}")
+    again = "lines are left after" if ran.returncode == 0 else "it does not fail again"  # (a replay may miss the moment)
+    must(again in said, f"{said} {ran}")
     # (between two turns of a replay all devices go and come, so any one line may be enough)
     must(0 < len(left) <= before, f"{before} lines: {left}")
     for words in (["no-such.tl", tools.chip, "--", "true"], ["-o", "/no/such", kept, tools.chip, "--", "true"]):
