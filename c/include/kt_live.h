@@ -16,7 +16,7 @@
  * the code that runs them may be in different source files, also of a plug-in. They need gcc or clang.
  *
  * Return values: 0 or more on success; a negative errno on failure, and then nothing has changed, not even what `out`
- * points to. Paths and names are C strings.
+ * points to. There is one exception: after -ETIMEDOUT and -EDEADLK the device is marked. Paths and names are C strings.
  *
  * Threads that end: if a thread is cancelled in a callback or ends there by pthread_exit(), or if a C++ exception
  * leaves the callback, the callback has ended like one that returns. Otherwise no call here is a cancellation point.

@@ -122,8 +122,9 @@ static inline int32_t kt_until_done(int32_t (*step)(struct kt_handle *tree, stru
 
 /* Removes a node and everything below it, and waits until no callback runs there (kernfs_remove). A callback that
  * removes its own node or one above calls kt_remove_self_wait() instead. Returns what kt_remove() returns, but never
- * -EAGAIN: of the threads that wait for one node, one gets 1 and the others 0. After -ENOMEM, which may come when
- * everything is marked, call it again. */
+ * -EAGAIN: of the threads that wait here for one node, one gets 1 and the others 0. (If a callback calls
+ * kt_remove_self_wait() meanwhile, it may get 1 too, or instead: kt_claim() says which thread frees.) After -ENOMEM,
+ * which may come when everything is marked, call it again. */
 KT_CALL(1, 3)
 static inline int32_t kt_remove_wait(struct kt_handle *tree, struct kt_key key, struct kt_lock *lock)
 {
