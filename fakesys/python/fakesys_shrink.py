@@ -90,7 +90,8 @@ class Shrinker:
         with fakesys_again([*words, self.options.description, "--", *self.options.command]) as storm:
             said = storm.stdout.read()
         if storm.returncode not in (0, FOUND):
-            raise fakesys_run.Refused(f"the storm cannot be replayed: {said.strip()[-500:]}")
+            problem = f"the storm cannot be replayed: {said.strip()[-500:]}"
+            raise OSError(problem) if storm.returncode == fakesys_run.CANNOT else fakesys_run.Refused(problem)
         found = re.search(r"FOUND after [\d.]+ s: (?:it )?(.*)", said)
         return found[1] if found else None
 

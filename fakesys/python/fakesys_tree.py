@@ -8,7 +8,7 @@ import re
 MOST_LINKS = 40  # on the way to a node, as in the kernel
 MOST_LINES = 50  # in one write: the kernel may split a long one anywhere
 # Words of lines: whose path is followed through links, and of whose path only the directory is.
-FOLLOWED = ("set", "fail", "late", "slow", "count", "hide", "show", "notify", "unplug", "change", "filesystem")
+FOLLOWED = ("set", "fail", "late", "slow", "count", "hide", "show", "notify", "unplug", "replug", "change", "filesystem")
 FOLLOWED_ABOVE = ("mkdir", "file", "link", "activate", "rm", "mv")
 
 

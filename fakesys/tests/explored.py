@@ -203,6 +203,8 @@ def shrunk(tools):
     for words in (["no-such.tl", tools.chip, "--", "true"], ["-o", "/no/such", kept, tools.chip, "--", "true"]):
         ran = tools.run("shrink", *words)
         must(ran.returncode == 2 and "No such file" in ran.stderr, f"{words}: {ran}")
+    unmounted = tools.run("shrink", kept, tools.chip, "--", "true", env={**os.environ, "FAKESYSFS": "/no/such"})
+    must(unmounted.returncode == 125 and "cannot be replayed" in unmounted.stderr, unmounted)
     return f"{before} lines to {len(left)}"
 
 

@@ -37,9 +37,10 @@ def followed(tools):
         f"{give} 'set {BY_A_LINK}/nothing 7'; echo $?",
         f"{give} 'unplug {BY_A_LINK}'; ls /sys/class/hwmon | wc -l",
         f"{give} 'plug {BY_A_LINK}'; cat /sys{BY_A_LINK}/temp1_input",
+        f"{give} 'replug {BY_A_LINK}'; cat /sys{BY_A_LINK}/temp1_input",
         f"{give} 'rm {BY_A_LINK}' 'file /class/hwmon/x 644 y'; cat /sys/class/hwmon/x /sys{CHIP}/name",
     )
-    must(ran.stdout.split() == ["7", "1", "0", "42000", "y", "coretemp"], ran)
+    must(ran.stdout.split() == ["7", "1", "0", "42000", "42000", "y", "coretemp"], ran)
     must(f"\nfakesys: No such file or directory: set {CHIP}/nothing 7\n" in ran.stderr, ran.stderr)
     lines = tools.file("links.tl", f"0 fail {BY_A_LINK}/name EIO\n0.1 set {BY_A_LINK}/nothing 7\n0.2 rm {CHIP}/temp1_input\n")
     script = f"while [ -e /sys{CHIP}/temp1_input ]; do sleep 0.05; done; cat /sys{CHIP}/name 2> /dev/null || echo fails"
