@@ -3,7 +3,7 @@ use Rattle.std.proofs.Common.{◌≡◌, ℕ, zero, suc, ◌+◌, ◌<◌, ◌�
 use mathlib.Core.Option.{some, some-injective, some-ne-none}
 use lib.ListN.{get_elem?}
 use Rattle.kf_gates.specs.declared.view.GateView.{GateView}
-use Rattle.kf_gates.specs.declared.view.GateView.TheVariants.{Keeps, Outside, Left, Counted, OneTooMany, Knocking, Inside, Turned, Broken, Restored}
+use Rattle.kf_gates.specs.declared.view.GateView.TheVariants.{Keeps, Outside, Looked, Full, Left, Counted, OneTooMany, Knocking, Inside, Turned, Broken, Restored}
 use Rattle.kf_gates.specs.Rule.{IsPass, bit, counted_by, due_from, is_user, total, users}
 
 -- one seat's view changes
@@ -48,8 +48,10 @@ pub users_few : (lane : ℕ) (views : List GateView) → users lane views ≤ le
 users_few lane views = total_few (λ v. bit (is_user lane v)) (λ v. bit_few (is_user lane v)) views
 
 pub counted_few : (v : GateView) → counted_by v ≤ 1
-counted_few (Keeps p) = bit_few p.spare
-counted_few (Outside f) = omega arith
+counted_few (Keeps p n) = bit_few p.spare
+counted_few Outside = omega arith
+counted_few (Looked f) = omega arith
+counted_few (Full f) = omega arith
 counted_few (Left f) = omega arith
 counted_few Counted = omega arith
 counted_few (OneTooMany f) = omega arith
@@ -60,8 +62,10 @@ counted_few (Broken k n) = omega arith
 counted_few (Restored k n) = omega arith
 
 pub due_counted : (v : GateView) → due_from v ≤ counted_by v
-due_counted (Keeps p) = omega arith
-due_counted (Outside f) = omega arith
+due_counted (Keeps p n) = omega arith
+due_counted Outside = omega arith
+due_counted (Looked f) = omega arith
+due_counted (Full f) = omega arith
 due_counted (Left f) = omega arith
 due_counted Counted = omega arith
 due_counted (OneTooMany f) = omega arith
@@ -73,8 +77,10 @@ due_counted (Restored k n) = omega arith
 
 -- what a pass counts for
 pub pass_nowhere : (v : GateView) → IsPass v → (lane : ℕ) → is_user lane v ≡ false
-pass_nowhere (Keeps p) pass lane = absurd pass
-pass_nowhere (Outside f) pass lane = refl
+pass_nowhere (Keeps p n) pass lane = absurd pass
+pass_nowhere Outside pass lane = refl
+pass_nowhere (Looked f) pass lane = refl
+pass_nowhere (Full f) pass lane = refl
 pass_nowhere (Left f) pass lane = refl
 pass_nowhere Counted pass lane = absurd pass
 pass_nowhere (OneTooMany f) pass lane = absurd pass
@@ -85,8 +91,10 @@ pass_nowhere (Broken k n) pass lane = absurd pass
 pass_nowhere (Restored k n) pass lane = absurd pass
 
 pub pass_counts : (v : GateView) → IsPass v → (counted_by v ≡ 0) × (due_from v ≡ 0)
-pass_counts (Keeps p) pass = absurd pass
-pass_counts (Outside f) pass = (refl, refl)
+pass_counts (Keeps p n) pass = absurd pass
+pass_counts Outside pass = (refl, refl)
+pass_counts (Looked f) pass = (refl, refl)
+pass_counts (Full f) pass = (refl, refl)
 pass_counts (Left f) pass = (refl, refl)
 pass_counts Counted pass = absurd pass
 pass_counts (OneTooMany f) pass = absurd pass

@@ -10,7 +10,7 @@ use Rattle.atomic_table.specs.Table.{opening}
 use Rattle.atomic_table.proofs.Lists.{at_set, at_snoc}
 use Rattle.kf_gates.specs.declared.view.GatePlan.{GatePlan}
 use Rattle.kf_gates.specs.declared.view.GateView.{GateView}
-use Rattle.kf_gates.specs.declared.view.GateView.TheVariants.{Keeps, Outside, Left, Counted, OneTooMany, Knocking, Inside, Turned, Broken, Restored}
+use Rattle.kf_gates.specs.declared.view.GateView.TheVariants.{Keeps, Outside, Looked, Full, Left, Counted, OneTooMany, Knocking, Inside, Turned, Broken, Restored}
 use Rattle.kf_gates.specs.Rule.{Table, bit, gate_word, most_passes, IsPass, is_user, is_inside, counted_by, due_from, total, users, NoneInside, Knows, Kept, opened}
 use Rattle.kf_gates.specs.Laws.{Has, IsOver}
 use Rattle.kf_gates.specs.Runs.{CountsIn, MayUncount, one_more, one_less, moved, with_pass, new_words}
@@ -124,16 +124,18 @@ pub break_kept : (lanes : ℕ) (t : Table) (r : Kept lanes t) (id k n : ℕ) →
 break_kept lanes t r id k n seated inside = off_kept lanes t r id k (Inside k n) (Broken k n) seated (λ lane. refl) (λ lane. refl) refl refl (λ lane. refl) inside inside
 
 pub leave_kept : (lanes : ℕ) (t : Table) (r : Kept lanes t) (id k : ℕ) (v : GateView) → Has t id v → CountsIn k v → k < lanes → Kept lanes (moved t (8 * k + 8) one_less id (stepped_off v))
-leave_kept lanes t r id k (Keeps p) seated counts inside = absurd counts
-leave_kept lanes t r id k (Outside f) seated counts inside = absurd counts
+leave_kept lanes t r id k (Keeps p n) seated counts inside = absurd counts
+leave_kept lanes t r id k Outside seated counts inside = absurd counts
+leave_kept lanes t r id k (Looked f) seated counts inside = absurd counts
+leave_kept lanes t r id k (Full f) seated counts inside = absurd counts
 leave_kept lanes t r id k (Left f) seated counts inside = absurd counts
 leave_kept lanes t r id k Counted seated counts inside = absurd counts
 leave_kept lanes t r id k (OneTooMany f) seated counts inside = absurd counts
 leave_kept lanes t r id k (Knocking j) seated counts inside = absurd counts
-leave_kept lanes t r id k (Inside j n) seated counts inside = off_kept lanes t r id k (Inside j n) (Outside (gate_word n false)) seated (λ lane. ap (λ (x : ℕ). bit (eqb x lane)) counts) (λ lane. refl) refl refl (λ lane. refl) inside tt
-leave_kept lanes t r id k (Turned j f) seated counts inside = off_kept lanes t r id k (Turned j f) (Outside f) seated (λ lane. ap (λ (x : ℕ). bit (eqb x lane)) counts) (λ lane. refl) refl refl (λ lane. refl) inside tt
+leave_kept lanes t r id k (Inside j n) seated counts inside = off_kept lanes t r id k (Inside j n) (Looked (gate_word n false)) seated (λ lane. ap (λ (x : ℕ). bit (eqb x lane)) counts) (λ lane. refl) refl refl (λ lane. refl) inside tt
+leave_kept lanes t r id k (Turned j f) seated counts inside = off_kept lanes t r id k (Turned j f) (Looked f) seated (λ lane. ap (λ (x : ℕ). bit (eqb x lane)) counts) (λ lane. refl) refl refl (λ lane. refl) inside tt
 leave_kept lanes t r id k (Broken j n) seated counts inside = absurd counts
-leave_kept lanes t r id k (Restored j n) seated counts inside = off_kept lanes t r id k (Restored j n) (Outside (gate_word n false)) seated (λ lane. ap (λ (x : ℕ). bit (eqb x lane)) counts) (λ lane. refl) refl refl (λ lane. refl) inside tt
+leave_kept lanes t r id k (Restored j n) seated counts inside = off_kept lanes t r id k (Restored j n) Outside seated (λ lane. ap (λ (x : ℕ). bit (eqb x lane)) counts) (λ lane. refl) refl refl (λ lane. refl) inside tt
 
 pub look_kept : (lanes : ℕ) (t : Table) (r : Kept lanes t) (id k : ℕ) → Has t id (Knocking k) → Kept lanes (moved t 0 (λ n. n) id (looked (get_or t.words 0 0) k))
 look_kept lanes t r id k seated =
@@ -149,10 +151,10 @@ look_kept lanes t r id k seated =
     (loads lanes t r 0 id (Knocking k) (Turned k x) r.plan seated r.word refl refl (λ lane. refl)
     (λ shut lane less. none_stays lane t.views id (Turned k x) refl (r.still shut lane less)) mine (λ j y _ e. r.seats j y e)))
 
-pub look_back_kept : (lanes : ℕ) (t : Table) (r : Kept lanes t) (id f : ℕ) → Has t id (Outside f) → Kept lanes (moved t 0 (λ n. n) id (Left (get_or t.words 0 0)))
-look_back_kept lanes t r id f seated =
+pub look_back_kept : (lanes : ℕ) (t : Table) (r : Kept lanes t) (id : ℕ) (v : GateView) → Has t id v → IsPass v → Kept lanes (moved t 0 (λ n. n) id (Left (get_or t.words 0 0)))
+look_back_kept lanes t r id v seated pass =
     let w : GateView = Left (get_or t.words 0 0) in
-    loads lanes t r 0 id (Outside f) w r.plan seated r.word refl refl (λ lane. refl) (λ shut lane less. none_stays lane t.views id w refl (r.still shut lane less)) tt (λ j y _ e. r.seats j y e)
+    loads lanes t r 0 id v w r.plan seated r.word (pass_counts v pass).0 (pass_counts v pass).1 (λ lane. ap bit (pass_nowhere v pass lane)) (λ shut lane less. none_stays lane t.views id w refl (r.still shut lane less)) tt (λ j y _ e. r.seats j y e)
 
 -- a step on the count of passes
 counting : (lanes : ℕ) (t : Table) (r : Kept lanes t) (id m : ℕ) (v w : GateView) → Has t id v → ((lane : ℕ) → is_user lane v ≡ false) → ((lane : ℕ) → is_user lane w ≡ false) → ((lane : ℕ) → is_inside lane w ≡ false)
@@ -190,15 +192,17 @@ count_kept lanes t r id v seated pass =
         (counting lanes t r id ((n' + 1) % 18446744073709551616) v (OneTooMany n') seated (pass_nowhere v pass) (λ lane. refl) (λ lane. refl) (omega arith) (omega arith) tt)
 
 pub uncount_kept : (lanes : ℕ) (t : Table) (r : Kept lanes t) (id : ℕ) (v : GateView) → Has t id v → MayUncount v → Kept lanes (moved t 2 one_less id (uncounted v))
-uncount_kept lanes t r id (Keeps p) seated may = absurd may
-uncount_kept lanes t r id (Outside f) seated may = absurd may
+uncount_kept lanes t r id (Keeps p n) seated may = absurd may
+uncount_kept lanes t r id Outside seated may = absurd may
+uncount_kept lanes t r id (Looked f) seated may = absurd may
+uncount_kept lanes t r id (Full f) seated may = absurd may
 uncount_kept lanes t r id (Left f) seated may = absurd may
 uncount_kept lanes t r id Counted seated may =
     let n : ℕ = get_or t.words 2 0 in let most = passes_few lanes t r in let few = r.few in let passes = r.passes in let some' : 1 ≤ total counted_by t.views = total_at counted_by t.views id Counted seated in
-    counting lanes t r id ((n + 18446744073709551615) % 18446744073709551616) Counted (Outside 0) seated (λ lane. refl) (λ lane. refl) (λ lane. refl) (omega arith) (omega arith) tt
+    counting lanes t r id ((n + 18446744073709551615) % 18446744073709551616) Counted Outside seated (λ lane. refl) (λ lane. refl) (λ lane. refl) (omega arith) (omega arith) tt
 uncount_kept lanes t r id (OneTooMany f) seated may =
     let n : ℕ = get_or t.words 2 0 in let most = passes_few lanes t r in let few = r.few in let passes = r.passes in let some' : 1 ≤ total counted_by t.views = total_at counted_by t.views id (OneTooMany f) seated in
-    counting lanes t r id ((n + 18446744073709551615) % 18446744073709551616) (OneTooMany f) (Outside f) seated (λ lane. refl) (λ lane. refl) (λ lane. refl) (omega arith) (omega arith) tt
+    counting lanes t r id ((n + 18446744073709551615) % 18446744073709551616) (OneTooMany f) (Full f) seated (λ lane. refl) (λ lane. refl) (λ lane. refl) (omega arith) (omega arith) tt
 uncount_kept lanes t r id (Knocking k) seated may = absurd may
 uncount_kept lanes t r id (Inside k n) seated may = absurd may
 uncount_kept lanes t r id (Turned k f) seated may = absurd may
@@ -208,8 +212,10 @@ uncount_kept lanes t r id (Restored k n) seated may = absurd may
 -- under a plan of the same number what seats other than the keeper's know stays so
 others_same : (lanes : ℕ) (t : Table) (r : Kept lanes t) (id : ℕ) (p : GatePlan) → id ≡ 0 → p.number ≡ r.plan.number
     → (j : ℕ) (x : GateView) → j ≢ id → Has t j x → Knows lanes p j x
-others_same lanes t r id p first same j (Keeps q) other e = absurd (other ((r.seats j (Keeps q) e).1 ∙ sym first))
-others_same lanes t r id p first same j (Outside f) other e = tt
+others_same lanes t r id p first same j (Keeps q n) other e = absurd (other ((r.seats j (Keeps q n) e).1 ∙ sym first))
+others_same lanes t r id p first same j Outside other e = tt
+others_same lanes t r id p first same j (Looked f) other e = tt
+others_same lanes t r id p first same j (Full f) other e = tt
 others_same lanes t r id p first same j (Left f) other e = tt
 others_same lanes t r id p first same j Counted other e = tt
 others_same lanes t r id p first same j (OneTooMany f) other e = tt
@@ -222,8 +228,10 @@ others_same lanes t r id p first same j (Restored k n) other e = r.seats j (Rest
 -- if nobody is inside, under any plan
 others_next : (lanes : ℕ) (t : Table) (r : Kept lanes t) (id : ℕ) (p : GatePlan) → id ≡ 0 → ((lane : ℕ) → lane < lanes → NoneInside lane t.views)
     → (j : ℕ) (x : GateView) → j ≢ id → Has t j x → Knows lanes p j x
-others_next lanes t r id p first clear j (Keeps q) other e = absurd (other ((r.seats j (Keeps q) e).1 ∙ sym first))
-others_next lanes t r id p first clear j (Outside f) other e = tt
+others_next lanes t r id p first clear j (Keeps q n) other e = absurd (other ((r.seats j (Keeps q n) e).1 ∙ sym first))
+others_next lanes t r id p first clear j Outside other e = tt
+others_next lanes t r id p first clear j (Looked f) other e = tt
+others_next lanes t r id p first clear j (Full f) other e = tt
 others_next lanes t r id p first clear j (Left f) other e = tt
 others_next lanes t r id p first clear j Counted other e = tt
 others_next lanes t r id p first clear j (OneTooMany f) other e = tt
@@ -235,24 +243,26 @@ others_next lanes t r id p first clear j (Broken k n) other e = r.seats j (Broke
 others_next lanes t r id p first clear j (Restored k n) other e = r.seats j (Restored k n) e
 
 -- a store of the gate's word by the keeper
-stores : (lanes : ℕ) (t : Table) (r : Kept lanes t) (id : ℕ) (p q : GatePlan) → Has t id (Keeps p) → q.spare ≡ p.spare → q.seen ≡ 0 → ((j : ℕ) (x : GateView) → j ≢ id → Has t j x → Knows lanes q j x)
-    → Kept lanes (moved t 0 (λ _. gate_word q.number q.shut) id (Keeps q))
-stores lanes t r id p q seated spare unseen others =
-    let wide = r.wide in let word : ℕ = gate_word q.number q.shut in let mine = r.seats id (Keeps p) seated in let same : bit q.spare ≡ bit p.spare = ap bit spare in let few = r.few in
-    moves lanes t r id (Keeps p) (Keeps q) q (set t.words 0 word) seated (length-set t.words 0 word ∙ wide)
+stores : (lanes : ℕ) (t : Table) (r : Kept lanes t) (id : ℕ) (p q : GatePlan) (n m : ℕ) → Has t id (Keeps p n) → q.spare ≡ p.spare → q.seen ≡ 0 → ((j : ℕ) (x : GateView) → j ≢ id → Has t j x → Knows lanes q j x)
+    → Kept lanes (moved t 0 (λ _. gate_word q.number q.shut) id (Keeps q m))
+stores lanes t r id p q n m seated spare unseen others =
+    let wide = r.wide in let word : ℕ = gate_word q.number q.shut in let mine = r.seats id (Keeps p n) seated in let same : bit q.spare ≡ bit p.spare = ap bit spare in let few = r.few in
+    moves lanes t r id (Keeps p n) (Keeps q m) q (set t.words 0 word) seated (length-set t.words 0 word ∙ wide)
     (get_or-set_same t.words 0 word 0 (omega arith))
     (let apart' = get_or-set_other t.words 0 2 word 0 (λ e. omega arith) in omega arith) (omega arith)
     (λ lane _. ap (λ (z : ℕ). z + 0) (get_or-set_other t.words 0 (8 * lane + 8) word 0 (λ e. omega arith)))
     (λ _ lane less. absurd (omega arith)) (refl, mine.1) others
 
-pub shut_kept : (lanes : ℕ) (t : Table) (r : Kept lanes t) (id : ℕ) (p : GatePlan) → Has t id (Keeps p) → Kept lanes (moved t 0 (λ _. gate_word p.number true) id (Keeps (shut_plan p)))
-shut_kept lanes t r id p seated =
-    let mine = r.seats id (Keeps p) seated in
-    stores lanes t r id p (shut_plan p) seated refl refl (others_same lanes t r id (shut_plan p) mine.1 (ap (λ (x : GatePlan). x.number) mine.0))
+pub shut_kept : (lanes : ℕ) (t : Table) (r : Kept lanes t) (id : ℕ) (p : GatePlan) (n : ℕ) → Has t id (Keeps p n) → Kept lanes (moved t 0 (λ _. gate_word p.number true) id (Keeps (shut_plan p) n))
+shut_kept lanes t r id p n seated =
+    let mine = r.seats id (Keeps p n) seated in
+    stores lanes t r id p (shut_plan p) n n seated refl refl (others_same lanes t r id (shut_plan p) mine.1 (ap (λ (x : GatePlan). x.number) mine.0))
 
 inside_counts : (lane : ℕ) (v : GateView) → bit (is_user lane v) ≡ 0 → is_inside lane v ≡ false
-inside_counts lane (Keeps p) e = refl
-inside_counts lane (Outside f) e = refl
+inside_counts lane (Keeps p n) e = refl
+inside_counts lane Outside e = refl
+inside_counts lane (Looked f) e = refl
+inside_counts lane (Full f) e = refl
 inside_counts lane (Left f) e = refl
 inside_counts lane Counted e = refl
 inside_counts lane (OneTooMany f) e = refl
@@ -263,53 +273,53 @@ inside_counts lane (Broken k n) e = refl
 inside_counts lane (Restored k n) e = refl
 
 -- nobody is in the lanes that the keeper has seen empty
-pub seen_still : (lanes : ℕ) (t : Table) (r : Kept lanes t) (id : ℕ) (p : GatePlan) → Has t id (Keeps p) → p.shut ≡ true
+pub seen_still : (lanes : ℕ) (t : Table) (r : Kept lanes t) (id : ℕ) (p : GatePlan) (n : ℕ) → Has t id (Keeps p n) → p.shut ≡ true
     → (lane : ℕ) → lane < p.seen → NoneInside lane t.views
-seen_still lanes t r id p seated shut lane less =
-    let mine = (r.seats id (Keeps p) seated).0 in
+seen_still lanes t r id p n seated shut lane less =
+    let mine = (r.seats id (Keeps p n) seated).0 in
     r.still (sym (ap (λ (q : GatePlan). q.shut) mine) ∙ shut) lane (subst (λ (q : GatePlan). lane < q.seen) mine less)
 
 -- the plan after a look at the next lane
-scan_loads : (lanes : ℕ) (t : Table) (r : Kept lanes t) (i id : ℕ) (p q : GatePlan) → Has t id (Keeps p) → q.number ≡ p.number → q.shut ≡ p.shut → q.spare ≡ p.spare → ((lane : ℕ) → lane < q.seen → NoneInside lane t.views)
-    → Kept lanes (moved t i (λ n. n) id (Keeps q))
-scan_loads lanes t r i id p q seated number shut spare still =
-    let mine = r.seats id (Keeps p) seated in
+scan_loads : (lanes : ℕ) (t : Table) (r : Kept lanes t) (i id : ℕ) (p q : GatePlan) (n m : ℕ) → Has t id (Keeps p n) → q.number ≡ p.number → q.shut ≡ p.shut → q.spare ≡ p.spare → ((lane : ℕ) → lane < q.seen → NoneInside lane t.views)
+    → Kept lanes (moved t i (λ w. w) id (Keeps q m))
+scan_loads lanes t r i id p q n m seated number shut spare still =
+    let mine = r.seats id (Keeps p n) seated in
     let word : get_or t.words 0 0 ≡ gate_word q.number q.shut = r.word ∙ ap (λ (x : GatePlan). gate_word x.number x.shut) (sym mine.0) ∙ (λ i'. gate_word (sym number i') (sym shut i')) in
-    loads lanes t r i id (Keeps p) (Keeps q) q seated word (ap bit (sym spare)) (ap bit (sym spare)) (λ lane. refl)
-    (λ _ lane less. none_stays lane t.views id (Keeps q) refl (still lane less)) (refl, mine.1)
+    loads lanes t r i id (Keeps p n) (Keeps q m) q seated word (ap bit (sym spare)) (ap bit (sym spare)) (λ lane. refl)
+    (λ _ lane less. none_stays lane t.views id (Keeps q m) refl (still lane less)) (refl, mine.1)
     (others_same lanes t r id q mine.1 (number ∙ ap (λ (z : GatePlan). z.number) mine.0))
 
-pub scan_kept : (lanes : ℕ) (t : Table) (r : Kept lanes t) (id : ℕ) (p : GatePlan) → Has t id (Keeps p) → p.shut ≡ true → p.seen < lanes
-    → Kept lanes (moved t (8 * p.seen + 8) (λ n. n) id (scanned (get_or t.words (8 * p.seen + 8) 0) p))
-scan_kept lanes t r id p seated shut inside =
+pub scan_kept : (lanes : ℕ) (t : Table) (r : Kept lanes t) (id : ℕ) (p : GatePlan) (n : ℕ) → Has t id (Keeps p n) → p.shut ≡ true → p.seen < lanes
+    → Kept lanes (moved t (8 * p.seen + 8) (λ w. w) id (scanned (get_or t.words (8 * p.seen + 8) 0) p n))
+scan_kept lanes t r id p n seated shut inside =
     let i : ℕ = 8 * p.seen + 8 in let x : ℕ = get_or t.words i 0 in
-    let still : (lane : ℕ) → lane < p.seen → NoneInside lane t.views = seen_still lanes t r id p seated shut in
+    let still : (lane : ℕ) → lane < p.seen → NoneInside lane t.views = seen_still lanes t r id p n seated shut in
     dite (ℕ_discrete x 0)
-    (λ none'. let q : GatePlan = record p { seen = p.seen + 1; found = x } in let told : scanned x p ≡ Keeps q = rw (eq-eqb x 0 none') refl in
+    (λ none'. let q : GatePlan = record p { seen = p.seen + 1; found = x } in let told : scanned x p n ≡ Keeps q (n + 1) = rw (eq-eqb x 0 none') refl in
     let empty : users p.seen t.views ≡ 0 = sym (r.counts p.seen inside) ∙ none' in
     let here : NoneInside p.seen t.views = λ j v e. inside_counts p.seen v (let few : bit (is_user p.seen v) ≤ users p.seen t.views = total_at (λ y. bit (is_user p.seen y)) t.views j v e in omega arith) in
-    subst (λ (w : GateView). Kept lanes (moved t i (λ n. n) id w)) (sym told)
-    (scan_loads lanes t r i id p q seated refl refl refl (λ lane less. dite (ℕ_discrete lane p.seen)
+    subst (λ (w : GateView). Kept lanes (moved t i (λ y. y) id w)) (sym told)
+    (scan_loads lanes t r i id p q n (n + 1) seated refl refl refl (λ lane less. dite (ℕ_discrete lane p.seen)
     (λ e. subst (λ (z : ℕ). NoneInside z t.views) (sym e) here) (λ other. still lane (omega arith)))))
-    (λ used. let q : GatePlan = record p { found = x } in let told : scanned x p ≡ Keeps q = rw (ne_eqb x 0 used) refl in
-    subst (λ (w : GateView). Kept lanes (moved t i (λ n. n) id w)) (sym told)
-    (scan_loads lanes t r i id p q seated refl refl refl still))
+    (λ used. let q : GatePlan = record p { found = x } in let told : scanned x p n ≡ Keeps q (n + 1) = rw (ne_eqb x 0 used) refl in
+    subst (λ (w : GateView). Kept lanes (moved t i (λ y. y) id w)) (sym told)
+    (scan_loads lanes t r i id p q n (n + 1) seated refl refl refl still))
 
-pub open_kept : (lanes : ℕ) (t : Table) (r : Kept lanes t) (id : ℕ) (p : GatePlan) → Has t id (Keeps p) → IsOver lanes p
-    → Kept lanes (moved t 0 (λ _. gate_word (p.number + 1) false) id (Keeps (next_plan p)))
-open_kept lanes t r id p seated over =
-    let mine = r.seats id (Keeps p) seated in
-    let clear : (lane : ℕ) → lane < lanes → NoneInside lane t.views = λ lane less. seen_still lanes t r id p seated over.shut lane (subst (λ (z : ℕ). lane < z) (sym over.seen) less) in
-    stores lanes t r id p (next_plan p) seated refl refl (others_next lanes t r id (next_plan p) mine.1 clear)
+pub open_kept : (lanes : ℕ) (t : Table) (r : Kept lanes t) (id : ℕ) (p : GatePlan) (n : ℕ) → Has t id (Keeps p n) → IsOver lanes p
+    → Kept lanes (moved t 0 (λ _. gate_word (p.number + 1) false) id (Keeps (next_plan p) n))
+open_kept lanes t r id p n seated over =
+    let mine = r.seats id (Keeps p n) seated in
+    let clear : (lane : ℕ) → lane < lanes → NoneInside lane t.views = λ lane less. seen_still lanes t r id p n seated over.shut lane (subst (λ (z : ℕ). lane < z) (sym over.seen) less) in
+    stores lanes t r id p (next_plan p) n n seated refl refl (others_next lanes t r id (next_plan p) mine.1 clear)
 
-pub sleep_kept : (lanes : ℕ) (t : Table) (r : Kept lanes t) (id : ℕ) (p : GatePlan) (f : ℕ → ℕ) → Has t id (Keeps p) → Kept lanes (moved t 1 f id (Keeps p))
-sleep_kept lanes t r id p f seated =
-    let mine = r.seats id (Keeps p) seated in let n : ℕ = f (get_or t.words 1 0) in let few = r.few in
-    moves lanes t r id (Keeps p) (Keeps p) r.plan (set t.words 1 n) seated (length-set t.words 1 n ∙ r.wide)
+pub sleep_kept : (lanes : ℕ) (t : Table) (r : Kept lanes t) (id : ℕ) (p : GatePlan) (m : ℕ) (f : ℕ → ℕ) → Has t id (Keeps p m) → Kept lanes (moved t 1 f id (Keeps p m))
+sleep_kept lanes t r id p m f seated =
+    let mine = r.seats id (Keeps p m) seated in let n : ℕ = f (get_or t.words 1 0) in let few = r.few in
+    moves lanes t r id (Keeps p m) (Keeps p m) r.plan (set t.words 1 n) seated (length-set t.words 1 n ∙ r.wide)
     (get_or-set_other t.words 1 0 n 0 (λ e. omega arith) ∙ r.word)
     (let same = get_or-set_other t.words 1 2 n 0 (λ e. omega arith) in omega arith) (omega arith)
     (λ lane _. ap (λ (z : ℕ). z + 0) (get_or-set_other t.words 1 (8 * lane + 8) n 0 (λ e. omega arith)))
-    (λ shut lane less. none_stays lane t.views id (Keeps p) refl (r.still shut lane less)) mine (λ j x _ e. r.seats j x e)
+    (λ shut lane less. none_stays lane t.views id (Keeps p m) refl (r.still shut lane less)) mine (λ j x _ e. r.seats j x e)
 
 -- a seat makes the pass that it counted, under a plan
 passes_kept : (lanes : ℕ) (t : Table) (r : Kept lanes t) (id : ℕ) (v : GateView) (p : GatePlan) → Has t id v → due_from v ≡ 1 → counted_by v ≡ 1 → ((lane : ℕ) → is_user lane v ≡ false)
@@ -317,31 +327,33 @@ passes_kept : (lanes : ℕ) (t : Table) (r : Kept lanes t) (id : ℕ) (v : GateV
     → p.number ≡ r.plan.number → p.shut ≡ r.plan.shut → p.seen ≡ r.plan.seen → Knows lanes p id (pass_made v) → ((j : ℕ) (x : GateView) → j ≢ id → Has t j x → Knows lanes p j x)
     → Kept lanes (with_pass t id v)
 passes_kept lanes t r id v p seated due counted nowhere due' counted' nowhere' outside number shut seen mine others =
-    let w : GateView = pass_made v in let views : List GateView = set t.views id w in let long = length-set t.views id w in let long' : length (views ++ Outside 0 ∷ []) ≡ length views + 1 = length-append views (Outside 0 ∷ []) in record {
+    let w : GateView = pass_made v in let views : List GateView = set t.views id w in let long = length-set t.views id w in let long' : length (views ++ Outside ∷ []) ≡ length views + 1 = length-append views (Outside ∷ []) in record {
       plan = p;
       wide = r.wide;
       word = r.word ∙ (λ i. gate_word (sym number i) (sym shut i));
-      passes = let a = r.passes in let b = total_set counted_by t.views id v w seated in let c = total_snoc counted_by views (Outside 0) in omega arith;
-      few = let a = r.few in let b = total_set due_from t.views id v w seated in let c = total_snoc due_from views (Outside 0) in omega arith;
-      counts = λ lane inside. let a = r.counts lane inside in let b = total_set (λ x. bit (is_user lane x)) t.views id v w seated in let c = total_snoc (λ x. bit (is_user lane x)) views (Outside 0) in
+      passes = let a = r.passes in let b = total_set counted_by t.views id v w seated in let c = total_snoc counted_by views Outside in omega arith;
+      few = let a = r.few in let b = total_set due_from t.views id v w seated in let c = total_snoc due_from views Outside in omega arith;
+      counts = λ lane inside. let a = r.counts lane inside in let b = total_set (λ x. bit (is_user lane x)) t.views id v w seated in let c = total_snoc (λ x. bit (is_user lane x)) views Outside in
           let d = ap bit (nowhere lane) in let e = ap bit (nowhere' lane) in omega arith;
-      still = λ is lane less. none_comes lane views (Outside 0) refl (none_stays lane t.views id w (outside lane) (r.still (sym shut ∙ is) lane (subst (λ (z : ℕ). lane < z) seen less)));
+      still = λ is lane less. none_comes lane views Outside refl (none_stays lane t.views id w (outside lane) (r.still (sym shut ∙ is) lane (subst (λ (z : ℕ). lane < z) seen less)));
       seats = λ j x e. ⊎_elim
           (λ (old : get_elem? views j ≡ some x). ⊎_elim
           (λ (s : (j ≡ id) × (w ≡ x)). subst (λ (y : ℕ × GateView). Knows lanes p y.0 y.1) (λ i. (sym s.0 i, s.1 i)) mine)
           (λ (s : (j ≢ id) × Has t j x). others j x s.0 s.1)
           (at_set t.views id j w x old))
-          (λ (same : Outside 0 ≡ x). subst (λ (y : GateView). Knows lanes p j y) same tt)
-          (at_snoc views (Outside 0) x j e);
+          (λ (same : Outside ≡ x). subst (λ (y : GateView). Knows lanes p j y) same tt)
+          (at_snoc views Outside x j e);
     }
 
 pub pass_kept : (lanes : ℕ) (t : Table) (r : Kept lanes t) (id : ℕ) (v : GateView) → Has t id v → due_from v ≡ 1 → Kept lanes (with_pass t id v)
-pass_kept lanes t r id (Keeps p) seated due =
-    let mine = r.seats id (Keeps p) seated in let q : GatePlan = record p { spare = false } in
-    passes_kept lanes t r id (Keeps p) q seated due due (λ lane. refl) refl refl (λ lane. refl) (λ lane. refl) (ap (λ (z : GatePlan). z.number) mine.0) (ap (λ (z : GatePlan). z.shut) mine.0) (ap (λ (z : GatePlan). z.seen) mine.0) (refl, mine.1)
+pass_kept lanes t r id (Keeps p n) seated due =
+    let mine = r.seats id (Keeps p n) seated in let q : GatePlan = record p { spare = false } in
+    passes_kept lanes t r id (Keeps p n) q seated due due (λ lane. refl) refl refl (λ lane. refl) (λ lane. refl) (ap (λ (z : GatePlan). z.number) mine.0) (ap (λ (z : GatePlan). z.shut) mine.0) (ap (λ (z : GatePlan). z.seen) mine.0) (refl, mine.1)
     (others_same lanes t r id q mine.1 (ap (λ (z : GatePlan). z.number) mine.0))
 pass_kept lanes t r id Counted seated due = passes_kept lanes t r id Counted r.plan seated refl refl (λ lane. refl) refl refl (λ lane. refl) (λ lane. refl) refl refl refl tt (λ j x _ e. r.seats j x e)
-pass_kept lanes t r id (Outside f) seated due = absurd (omega arith)
+pass_kept lanes t r id Outside seated due = absurd (omega arith)
+pass_kept lanes t r id (Looked f) seated due = absurd (omega arith)
+pass_kept lanes t r id (Full f) seated due = absurd (omega arith)
 pass_kept lanes t r id (Left f) seated due = absurd (omega arith)
 pass_kept lanes t r id (OneTooMany f) seated due = absurd (omega arith)
 pass_kept lanes t r id (Knocking k) seated due = absurd (omega arith)
@@ -370,9 +382,9 @@ opening_kept lanes =
     }
 
 -- nobody is inside if the keeper has seen all lanes empty
-pub nobody_inside : (lanes : ℕ) (t : Table) (r : Kept lanes t) (id : ℕ) (p : GatePlan) → Has t id (Keeps p) → IsOver lanes p
+pub nobody_inside : (lanes : ℕ) (t : Table) (r : Kept lanes t) (id : ℕ) (p : GatePlan) (m : ℕ) → Has t id (Keeps p m) → IsOver lanes p
     → (seat lane n : ℕ) → Has t seat (Inside lane n) → ⊥
-nobody_inside lanes t r id p seated over seat lane n inside =
+nobody_inside lanes t r id p m seated over seat lane n inside =
     let within : lane < lanes = (r.seats seat (Inside lane n) inside).0 in
-    let none' = seen_still lanes t r id p seated over.shut lane (subst (λ (z : ℕ). lane < z) (sym over.seen) within) seat (Inside lane n) inside in
+    let none' = seen_still lanes t r id p m seated over.shut lane (subst (λ (z : ℕ). lane < z) (sym over.seen) within) seat (Inside lane n) inside in
     let one = here_one lane in let zero' : bit (eqb lane lane) ≡ 0 = ap bit none' in omega arith

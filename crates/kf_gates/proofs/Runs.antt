@@ -7,10 +7,10 @@ use lib.ListN.{get_elem?}
 use Rattle.atomic_table.proofs.Lists.{at_set, at_snoc, set_here, set_else, at_longer}
 use Rattle.kf_gates.specs.declared.view.GatePlan.{GatePlan}
 use Rattle.kf_gates.specs.declared.view.GateView.{GateView}
-use Rattle.kf_gates.specs.declared.view.GateView.TheVariants.{Keeps, Outside, Left, Counted, OneTooMany, Knocking, Inside, Turned, Broken, Restored}
+use Rattle.kf_gates.specs.declared.view.GateView.TheVariants.{Keeps, Outside, Looked, Full, Left, Counted, OneTooMany, Knocking, Inside, Turned, Broken, Restored}
 use Rattle.kf_gates.specs.Rule.{Table, IsPass, bit, gate_word, most_passes, Kept}
 use Rattle.kf_gates.specs.Laws.{Has}
-use Rattle.kf_gates.specs.Steps.{after_count, looked, next_plan, pass_made, scanned, shut_plan, stepped_off, uncounted}
+use Rattle.kf_gates.specs.Steps.{after_count, looked, next_plan, pass_made, scanned, scanned_plan, shut_plan, stepped_off, uncounted}
 use Rattle.kf_gates.specs.Runs.{Kind, CountsIn, MayUncount, one_more, one_less, moved, with_pass, GateStep, GateRun, OpensWell, RuleKept, NobodyPastTheMark, ClosedForGood}
 use Rattle.kf_gates.specs.Runs.Kind.{knocks, looks, looks_back, leaves, breaks, restores, counts, uncounts, makes_pass, shuts, scans, opens, counts_sleep}
 use Rattle.kf_gates.proofs.Counting.{there}
@@ -19,17 +19,17 @@ use Rattle.kf_gates.proofs.Keeping.{half, odd_of, knock_kept, look_kept, look_ba
 step_keeps : (lanes : ℕ) (t u : Table) (kind : Kind) → Kept lanes t → GateStep lanes t kind u → Kept lanes u
 step_keeps lanes t u (knocks j k v) r s = subst (λ (x : Table). Kept lanes x) (sym s.3) (knock_kept lanes t r j k v s.0 s.1 s.2)
 step_keeps lanes t u (looks j k) r s = subst (λ (x : Table). Kept lanes x) (sym s.1) (look_kept lanes t r j k s.0)
-step_keeps lanes t u (looks_back j f) r s = subst (λ (x : Table). Kept lanes x) (sym s.1) (look_back_kept lanes t r j f s.0)
+step_keeps lanes t u (looks_back j v) r s = subst (λ (x : Table). Kept lanes x) (sym s.2) (look_back_kept lanes t r j v s.0 s.1)
 step_keeps lanes t u (leaves j k v) r s = subst (λ (x : Table). Kept lanes x) (sym s.3) (leave_kept lanes t r j k v s.0 s.1 s.2)
 step_keeps lanes t u (breaks j k n) r s = subst (λ (x : Table). Kept lanes x) (sym s.2) (break_kept lanes t r j k n s.0 s.1)
 step_keeps lanes t u (restores j k n) r s = subst (λ (x : Table). Kept lanes x) (sym s.2) (restore_kept lanes t r j k n s.0 s.1)
 step_keeps lanes t u (counts j v) r s = subst (λ (x : Table). Kept lanes x) (sym s.2) (count_kept lanes t r j v s.0 s.1)
 step_keeps lanes t u (uncounts j v) r s = subst (λ (x : Table). Kept lanes x) (sym s.2) (uncount_kept lanes t r j v s.0 s.1)
 step_keeps lanes t u (makes_pass j v) r s = subst (λ (x : Table). Kept lanes x) (sym s.2) (pass_kept lanes t r j v s.0 s.1)
-step_keeps lanes t u (shuts j p) r s = subst (λ (x : Table). Kept lanes x) (sym s.2) (shut_kept lanes t r j p s.0)
-step_keeps lanes t u (scans j p) r s = subst (λ (x : Table). Kept lanes x) (sym s.3) (scan_kept lanes t r j p s.0 s.1 s.2)
-step_keeps lanes t u (opens j p) r s = subst (λ (x : Table). Kept lanes x) (sym s.2) (open_kept lanes t r j p s.0 s.1)
-step_keeps lanes t u (counts_sleep j p n) r s = subst (λ (x : Table). Kept lanes x) (sym s.1) (sleep_kept lanes t r j p (λ _. n) s.0)
+step_keeps lanes t u (shuts j p n) r s = subst (λ (x : Table). Kept lanes x) (sym s.2) (shut_kept lanes t r j p n s.0)
+step_keeps lanes t u (scans j p n) r s = subst (λ (x : Table). Kept lanes x) (sym s.3) (scan_kept lanes t r j p n s.0 s.1 s.2)
+step_keeps lanes t u (opens j p n) r s = subst (λ (x : Table). Kept lanes x) (sym s.2) (open_kept lanes t r j p n s.0 s.1)
+step_keeps lanes t u (counts_sleep j p n w) r s = subst (λ (x : Table). Kept lanes x) (sym s.1) (sleep_kept lanes t r j p n (λ _. w) s.0)
 
 pub rule_kept : RuleKept
 rule_kept lanes t u [] r e = subst (λ (x : Table). Kept lanes x) (sym e) r
@@ -45,11 +45,13 @@ data Onward (lanes : ℕ) (p q : GatePlan) : Type 0 where
 
 -- the keeper's plan after a step
 abbrev After : ℕ → GatePlan → Table → Type 0
-After lanes p u = (q : GatePlan) × Has u 0 (Keeps q) × Onward lanes p q
+After lanes p u = (q : GatePlan) × ((n : ℕ) × Has u 0 (Keeps q n)) × Onward lanes p q
 
 abbrev is_keeper : GateView → Bool
-is_keeper (Keeps p) = true
-is_keeper (Outside f) = false
+is_keeper (Keeps p n) = true
+is_keeper Outside = false
+is_keeper (Looked f) = false
+is_keeper (Full f) = false
 is_keeper (Left f) = false
 is_keeper Counted = false
 is_keeper (OneTooMany f) = false
@@ -62,39 +64,44 @@ is_keeper (Restored k n) = false
 not_both : false ≡ true → ⊥
 not_both e = let one : bit false ≡ bit true = ap bit e in omega arith
 
-other_seat : (t : Table) (j : ℕ) (v : GateView) (p : GatePlan) → Has t j v → is_keeper v ≡ false → Has t 0 (Keeps p) → 0 ≢ j
-other_seat t j v p at caller keeper e =
-    let same : v ≡ Keeps p = some-injective v (Keeps p) (sym at ∙ ap (λ (x : ℕ). get_elem? t.views x) (sym e) ∙ keeper) in
+other_seat : (t : Table) (j : ℕ) (v : GateView) (p : GatePlan) (n : ℕ) → Has t j v → is_keeper v ≡ false → Has t 0 (Keeps p n) → 0 ≢ j
+other_seat t j v p n at caller keeper e =
+    let same : v ≡ Keeps p n = some-injective v (Keeps p n) (sym at ∙ ap (λ (x : ℕ). get_elem? t.views x) (sym e) ∙ keeper) in
     not_both (sym caller ∙ ap is_keeper same)
 
 -- a step of a seat that is not the keeper's leaves the keeper's plan
-other_moves : (lanes : ℕ) (t : Table) (i : ℕ) (f : ℕ → ℕ) (j : ℕ) (v w : GateView) (p : GatePlan) → Has t j v → is_keeper v ≡ false → Has t 0 (Keeps p) → After lanes p (moved t i f j w)
-other_moves lanes t i f j v w p at caller keeper = (p, set_else t.views j 0 w (other_seat t j v p at caller keeper) ∙ keeper, stays refl refl refl)
+other_moves : (lanes : ℕ) (t : Table) (i : ℕ) (f : ℕ → ℕ) (j : ℕ) (v w : GateView) (p : GatePlan) (n : ℕ) → Has t j v → is_keeper v ≡ false → Has t 0 (Keeps p n) → After lanes p (moved t i f j w)
+other_moves lanes t i f j v w p n at caller keeper = (p, (n, set_else t.views j 0 w (other_seat t j v p n at caller keeper) ∙ keeper), stays refl refl refl)
 
 -- a step of the keeper: its plan is first in the table after it
-keeper_moves : (lanes : ℕ) (t : Table) (r : Kept lanes t) (i : ℕ) (f : ℕ → ℕ) (j : ℕ) (p p' q : GatePlan) → Has t j (Keeps p) → Has t 0 (Keeps p') → Onward lanes p q → After lanes p' (moved t i f j (Keeps q))
-keeper_moves lanes t r i f j p p' q at keeper onward =
-    let first = (r.seats j (Keeps p) at).1 in let same : p ≡ p' = (r.seats j (Keeps p) at).0 ∙ sym (r.seats 0 (Keeps p') keeper).0 in
-    (q, subst (λ (x : ℕ). get_elem? (set t.views x (Keeps q)) 0 ≡ some (Keeps q)) (sym first) (set_here t.views 0 (Keeps q) (there t.views 0 (Keeps p') keeper)), subst (λ (x : GatePlan). Onward lanes x q) same onward)
+keeper_moves : (lanes : ℕ) (t : Table) (r : Kept lanes t) (i : ℕ) (f : ℕ → ℕ) (j : ℕ) (p p' q : GatePlan) (n n' m : ℕ) → Has t j (Keeps p n) → Has t 0 (Keeps p' n') → Onward lanes p q → After lanes p' (moved t i f j (Keeps q m))
+keeper_moves lanes t r i f j p p' q n n' m at keeper onward =
+    let first = (r.seats j (Keeps p n) at).1 in let same : p ≡ p' = (r.seats j (Keeps p n) at).0 ∙ sym (r.seats 0 (Keeps p' n') keeper).0 in
+    let v : GateView = Keeps q m in
+    (q, (m, subst (λ (x : ℕ). get_elem? (set t.views x v) 0 ≡ some v) (sym first) (set_here t.views 0 v (there t.views 0 (Keeps p' n') keeper))), subst (λ (x : GatePlan). Onward lanes x q) same onward)
 
-pass_moves : (lanes : ℕ) (t : Table) (r : Kept lanes t) (j : ℕ) (v : GateView) (p : GatePlan) → Has t j v → Has t 0 (Keeps p) → After lanes p (moved t 0 (λ n. n) j (pass_made v)) → After lanes p (with_pass t j v)
-pass_moves lanes t r j v p at keeper after = (after.0, at_longer (set t.views j (pass_made v)) (Outside 0 ∷ []) 0 (Keeps after.0) after.1, after.2)
+pass_moves : (lanes : ℕ) (t : Table) (r : Kept lanes t) (j : ℕ) (v : GateView) (p : GatePlan) → After lanes p (moved t 0 (λ n. n) j (pass_made v)) → After lanes p (with_pass t j v)
+pass_moves lanes t r j v p after = (after.0, (after.1.0, at_longer (set t.views j (pass_made v)) (Outside ∷ []) 0 (Keeps after.0 after.1.0) after.1.1), after.2)
 
-makes_onward : (lanes : ℕ) (t : Table) (r : Kept lanes t) (j : ℕ) (v : GateView) (p : GatePlan) → Has t j v → Has t 0 (Keeps p) → After lanes p (with_pass t j v)
-makes_onward lanes t r j (Keeps q) p at keeper = pass_moves lanes t r j (Keeps q) p at keeper (keeper_moves lanes t r 0 (λ n. n) j q p (record q { spare = false }) at keeper (stays refl refl refl))
-makes_onward lanes t r j (Outside f) p at keeper = pass_moves lanes t r j (Outside f) p at keeper (other_moves lanes t 0 (λ n. n) j (Outside f) (Outside f) p at refl keeper)
-makes_onward lanes t r j (Left f) p at keeper = pass_moves lanes t r j (Left f) p at keeper (other_moves lanes t 0 (λ n. n) j (Left f) (Left f) p at refl keeper)
-makes_onward lanes t r j Counted p at keeper = pass_moves lanes t r j Counted p at keeper (other_moves lanes t 0 (λ n. n) j Counted (Outside 0) p at refl keeper)
-makes_onward lanes t r j (OneTooMany f) p at keeper = pass_moves lanes t r j (OneTooMany f) p at keeper (other_moves lanes t 0 (λ n. n) j (OneTooMany f) (OneTooMany f) p at refl keeper)
-makes_onward lanes t r j (Knocking k) p at keeper = pass_moves lanes t r j (Knocking k) p at keeper (other_moves lanes t 0 (λ n. n) j (Knocking k) (Knocking k) p at refl keeper)
-makes_onward lanes t r j (Inside k n) p at keeper = pass_moves lanes t r j (Inside k n) p at keeper (other_moves lanes t 0 (λ n. n) j (Inside k n) (Inside k n) p at refl keeper)
-makes_onward lanes t r j (Turned k f) p at keeper = pass_moves lanes t r j (Turned k f) p at keeper (other_moves lanes t 0 (λ n. n) j (Turned k f) (Turned k f) p at refl keeper)
-makes_onward lanes t r j (Broken k n) p at keeper = pass_moves lanes t r j (Broken k n) p at keeper (other_moves lanes t 0 (λ n. n) j (Broken k n) (Broken k n) p at refl keeper)
-makes_onward lanes t r j (Restored k n) p at keeper = pass_moves lanes t r j (Restored k n) p at keeper (other_moves lanes t 0 (λ n. n) j (Restored k n) (Restored k n) p at refl keeper)
+makes_onward : (lanes : ℕ) (t : Table) (r : Kept lanes t) (j : ℕ) (v : GateView) (p : GatePlan) (h : ℕ) → Has t j v → Has t 0 (Keeps p h) → After lanes p (with_pass t j v)
+makes_onward lanes t r j (Keeps q m) p h at keeper = pass_moves lanes t r j (Keeps q m) p (keeper_moves lanes t r 0 (λ n. n) j q p (record q { spare = false }) m h m at keeper (stays refl refl refl))
+makes_onward lanes t r j Outside p h at keeper = pass_moves lanes t r j Outside p (other_moves lanes t 0 (λ n. n) j Outside Outside p h at refl keeper)
+makes_onward lanes t r j (Looked f) p h at keeper = pass_moves lanes t r j (Looked f) p (other_moves lanes t 0 (λ n. n) j (Looked f) (Looked f) p h at refl keeper)
+makes_onward lanes t r j (Full f) p h at keeper = pass_moves lanes t r j (Full f) p (other_moves lanes t 0 (λ n. n) j (Full f) (Full f) p h at refl keeper)
+makes_onward lanes t r j (Left f) p h at keeper = pass_moves lanes t r j (Left f) p (other_moves lanes t 0 (λ n. n) j (Left f) (Left f) p h at refl keeper)
+makes_onward lanes t r j Counted p h at keeper = pass_moves lanes t r j Counted p (other_moves lanes t 0 (λ n. n) j Counted Outside p h at refl keeper)
+makes_onward lanes t r j (OneTooMany f) p h at keeper = pass_moves lanes t r j (OneTooMany f) p (other_moves lanes t 0 (λ n. n) j (OneTooMany f) (OneTooMany f) p h at refl keeper)
+makes_onward lanes t r j (Knocking k) p h at keeper = pass_moves lanes t r j (Knocking k) p (other_moves lanes t 0 (λ n. n) j (Knocking k) (Knocking k) p h at refl keeper)
+makes_onward lanes t r j (Inside k n) p h at keeper = pass_moves lanes t r j (Inside k n) p (other_moves lanes t 0 (λ n. n) j (Inside k n) (Inside k n) p h at refl keeper)
+makes_onward lanes t r j (Turned k f) p h at keeper = pass_moves lanes t r j (Turned k f) p (other_moves lanes t 0 (λ n. n) j (Turned k f) (Turned k f) p h at refl keeper)
+makes_onward lanes t r j (Broken k n) p h at keeper = pass_moves lanes t r j (Broken k n) p (other_moves lanes t 0 (λ n. n) j (Broken k n) (Broken k n) p h at refl keeper)
+makes_onward lanes t r j (Restored k n) p h at keeper = pass_moves lanes t r j (Restored k n) p (other_moves lanes t 0 (λ n. n) j (Restored k n) (Restored k n) p h at refl keeper)
 
 counting_caller : (k : ℕ) (v : GateView) → CountsIn k v → is_keeper v ≡ false
-counting_caller k (Keeps p) c = absurd c
-counting_caller k (Outside f) c = refl
+counting_caller k (Keeps p n) c = absurd c
+counting_caller k Outside c = refl
+counting_caller k (Looked f) c = refl
+counting_caller k (Full f) c = refl
 counting_caller k (Left f) c = refl
 counting_caller k Counted c = refl
 counting_caller k (OneTooMany f) c = refl
@@ -105,8 +112,10 @@ counting_caller k (Broken j n) c = refl
 counting_caller k (Restored j n) c = refl
 
 a_pass : (v : GateView) → IsPass v → is_keeper v ≡ false
-a_pass (Keeps p) c = absurd c
-a_pass (Outside f) c = refl
+a_pass (Keeps p n) c = absurd c
+a_pass Outside c = refl
+a_pass (Looked f) c = refl
+a_pass (Full f) c = refl
 a_pass (Left f) c = refl
 a_pass Counted c = refl
 a_pass (OneTooMany f) c = refl
@@ -117,8 +126,10 @@ a_pass (Broken j n) c = refl
 a_pass (Restored j n) c = refl
 
 uncounting_caller : (v : GateView) → MayUncount v → is_keeper v ≡ false
-uncounting_caller (Keeps p) c = absurd c
-uncounting_caller (Outside f) c = refl
+uncounting_caller (Keeps p n) c = absurd c
+uncounting_caller Outside c = refl
+uncounting_caller (Looked f) c = refl
+uncounting_caller (Full f) c = refl
 uncounting_caller (Left f) c = refl
 uncounting_caller Counted c = refl
 uncounting_caller (OneTooMany f) c = refl
@@ -128,37 +139,22 @@ uncounting_caller (Turned j f) c = refl
 uncounting_caller (Broken j n) c = refl
 uncounting_caller (Restored j n) c = refl
 
-goes_onward : (lanes : ℕ) (t u : Table) (kind : Kind) (r : Kept lanes t) → GateStep lanes t kind u → (p : GatePlan) → Has t 0 (Keeps p) → After lanes p u
-goes_onward lanes t u (knocks j k v) r s p keeper = subst (After lanes p) (sym s.3) (other_moves lanes t (8 * k + 8) one_more j v (Knocking k) p s.0 (a_pass v s.1) keeper)
-goes_onward lanes t u (looks j k) r s p keeper = subst (After lanes p) (sym s.1) (other_moves lanes t 0 (λ n. n) j (Knocking k) (looked (get_or t.words 0 0) k) p s.0 refl keeper)
-goes_onward lanes t u (looks_back j f) r s p keeper = subst (After lanes p) (sym s.1) (other_moves lanes t 0 (λ n. n) j (Outside f) (Left (get_or t.words 0 0)) p s.0 refl keeper)
-goes_onward lanes t u (leaves j k v) r s p keeper = subst (After lanes p) (sym s.3) (other_moves lanes t (8 * k + 8) one_less j v (stepped_off v) p s.0 (counting_caller k v s.1) keeper)
-goes_onward lanes t u (breaks j k n) r s p keeper = subst (After lanes p) (sym s.2) (other_moves lanes t (8 * k + 8) one_less j (Inside k n) (Broken k n) p s.0 refl keeper)
-goes_onward lanes t u (restores j k n) r s p keeper = subst (After lanes p) (sym s.2) (other_moves lanes t (8 * k + 8) one_more j (Broken k n) (Restored k n) p s.0 refl keeper)
-goes_onward lanes t u (counts j v) r s p keeper = subst (After lanes p) (sym s.2) (other_moves lanes t 2 one_more j v (after_count (get_or t.words 2 0)) p s.0 (a_pass v s.1) keeper)
-goes_onward lanes t u (uncounts j v) r s p keeper = subst (After lanes p) (sym s.2) (other_moves lanes t 2 one_less j v (uncounted v) p s.0 (uncounting_caller v s.1) keeper)
-goes_onward lanes t u (makes_pass j v) r s p keeper = subst (After lanes p) (sym s.2) (makes_onward lanes t r j v p s.0 keeper)
-goes_onward lanes t u (shuts j q) r s p keeper = subst (After lanes p) (sym s.2) (keeper_moves lanes t r 0 (λ _. gate_word q.number true) j q p (shut_plan q) s.0 keeper (is_shut s.1 refl refl))
-goes_onward lanes t u (scans j q) r s p keeper =
+goes_onward : (lanes : ℕ) (t u : Table) (kind : Kind) (r : Kept lanes t) → GateStep lanes t kind u → (p : GatePlan) (h : ℕ) → Has t 0 (Keeps p h) → After lanes p u
+goes_onward lanes t u (knocks j k v) r s p h keeper = subst (After lanes p) (sym s.3) (other_moves lanes t (8 * k + 8) one_more j v (Knocking k) p h s.0 (a_pass v s.1) keeper)
+goes_onward lanes t u (looks j k) r s p h keeper = subst (After lanes p) (sym s.1) (other_moves lanes t 0 (λ n. n) j (Knocking k) (looked (get_or t.words 0 0) k) p h s.0 refl keeper)
+goes_onward lanes t u (looks_back j v) r s p h keeper = subst (After lanes p) (sym s.2) (other_moves lanes t 0 (λ n. n) j v (Left (get_or t.words 0 0)) p h s.0 (a_pass v s.1) keeper)
+goes_onward lanes t u (leaves j k v) r s p h keeper = subst (After lanes p) (sym s.3) (other_moves lanes t (8 * k + 8) one_less j v (stepped_off v) p h s.0 (counting_caller k v s.1) keeper)
+goes_onward lanes t u (breaks j k n) r s p h keeper = subst (After lanes p) (sym s.2) (other_moves lanes t (8 * k + 8) one_less j (Inside k n) (Broken k n) p h s.0 refl keeper)
+goes_onward lanes t u (restores j k n) r s p h keeper = subst (After lanes p) (sym s.2) (other_moves lanes t (8 * k + 8) one_more j (Broken k n) (Restored k n) p h s.0 refl keeper)
+goes_onward lanes t u (counts j v) r s p h keeper = subst (After lanes p) (sym s.2) (other_moves lanes t 2 one_more j v (after_count (get_or t.words 2 0)) p h s.0 (a_pass v s.1) keeper)
+goes_onward lanes t u (uncounts j v) r s p h keeper = subst (After lanes p) (sym s.2) (other_moves lanes t 2 one_less j v (uncounted v) p h s.0 (uncounting_caller v s.1) keeper)
+goes_onward lanes t u (makes_pass j v) r s p h keeper = subst (After lanes p) (sym s.2) (makes_onward lanes t r j v p h s.0 keeper)
+goes_onward lanes t u (shuts j q m) r s p h keeper = subst (After lanes p) (sym s.2) (keeper_moves lanes t r 0 (λ _. gate_word q.number true) j q p (shut_plan q) m h m s.0 keeper (is_shut s.1 refl refl))
+goes_onward lanes t u (scans j q m) r s p h keeper =
     let i : ℕ = 8 * q.seen + 8 in let x : ℕ = get_or t.words i 0 in
-    subst (After lanes p) (sym s.3) (keeper_moves lanes t r i (λ n. n) j q p (record q { seen = if_seen x q; found = x }) s.0 keeper (looks_on s.2 refl refl))
-  where
-    if_seen : ℕ → GatePlan → ℕ
-    if_seen x q = plan_seen (scanned x q)
-      where
-        plan_seen : GateView → ℕ
-        plan_seen (Keeps y) = y.seen
-        plan_seen (Outside f) = 0
-        plan_seen (Left f) = 0
-        plan_seen Counted = 0
-        plan_seen (OneTooMany f) = 0
-        plan_seen (Knocking k) = 0
-        plan_seen (Inside k n) = 0
-        plan_seen (Turned k f) = 0
-        plan_seen (Broken k n) = 0
-        plan_seen (Restored k n) = 0
-goes_onward lanes t u (opens j q) r s p keeper = subst (After lanes p) (sym s.2) (keeper_moves lanes t r 0 (λ _. gate_word (q.number + 1) false) j q p (next_plan q) s.0 keeper (begins refl))
-goes_onward lanes t u (counts_sleep j q n) r s p keeper = subst (After lanes p) (sym s.1) (keeper_moves lanes t r 1 (λ _. n) j q p q s.0 keeper (stays refl refl refl))
+    subst (After lanes p) (sym s.3) (keeper_moves lanes t r i (λ n. n) j q p (scanned_plan x q) m h (m + 1) s.0 keeper (looks_on s.2 refl refl))
+goes_onward lanes t u (opens j q m) r s p h keeper = subst (After lanes p) (sym s.2) (keeper_moves lanes t r 0 (λ _. gate_word (q.number + 1) false) j q p (next_plan q) m h m s.0 keeper (begins refl))
+goes_onward lanes t u (counts_sleep j q m w) r s p h keeper = subst (After lanes p) (sym s.1) (keeper_moves lanes t r 1 (λ _. w) j q p q m h m s.0 keeper (stays refl refl refl))
 
 -- the opening of this number is over, or the gate has been opened since
 abbrev Over : ℕ → ℕ → GatePlan → Type 0
@@ -188,26 +184,28 @@ past_onward lanes n p q (looks_on less number shut) (inr now) = inr (number ∙ 
 past_onward lanes n p q (begins number) (inl later) = inl (omega arith)
 past_onward lanes n p q (begins number) (inr now) = let same = now.0 in inl (omega arith)
 
-run_over : (lanes n : ℕ) (t u : Table) (kinds : List Kind) → Kept lanes t → GateRun lanes t kinds u → (p : GatePlan) → Has t 0 (Keeps p) → Over lanes n p → (q : GatePlan) × Has u 0 (Keeps q) × Over lanes n q
-run_over lanes n t u [] r e p keeper over = subst (λ (x : Table). (q : GatePlan) × Has x 0 (Keeps q) × Over lanes n q) (sym e) (p, keeper, over)
-run_over lanes n t u (kind ∷ kinds) r s p keeper over =
-    let after = goes_onward lanes t s.0 kind r s.1 p keeper in
-    run_over lanes n s.0 u kinds (step_keeps lanes t s.0 kind r s.1) s.2 after.0 after.1 (over_onward lanes n p after.0 after.2 over)
+run_over : (lanes n : ℕ) (t u : Table) (kinds : List Kind) → Kept lanes t → GateRun lanes t kinds u → (p : GatePlan) (h : ℕ) → Has t 0 (Keeps p h) → Over lanes n p → (q : GatePlan) × ((m : ℕ) × Has u 0 (Keeps q m)) × Over lanes n q
+run_over lanes n t u [] r e p h keeper over = subst (λ (x : Table). (q : GatePlan) × ((m : ℕ) × Has x 0 (Keeps q m)) × Over lanes n q) (sym e) (p, (h, keeper), over)
+run_over lanes n t u (kind ∷ kinds) r s p h keeper over =
+    let after = goes_onward lanes t s.0 kind r s.1 p h keeper in
+    run_over lanes n s.0 u kinds (step_keeps lanes t s.0 kind r s.1) s.2 after.0 after.1.0 after.1.1 (over_onward lanes n p after.0 after.2 over)
 
 pub closed_for_good : ClosedForGood
-closed_for_good lanes t u kinds r run p keeper over seat lane number inside =
+closed_for_good lanes t u kinds r run p h keeper over seat lane number inside =
     let after : Kept lanes u = rule_kept lanes t u kinds r run in
-    let end = run_over lanes p.number t u kinds r run p keeper (inr (refl, over.shut, over.seen)) in
+    let end = run_over lanes p.number t u kinds r run p h keeper (inr (refl, over.shut, over.seen)) in
     let q : GatePlan = end.0 in
-    let its : number ≡ q.number = (after.seats seat (Inside lane number) inside).1 ∙ ap (λ (x : GatePlan). x.number) (sym (after.seats 0 (Keeps q) end.1).0) in
+    let its : number ≡ q.number = (after.seats seat (Inside lane number) inside).1 ∙ ap (λ (x : GatePlan). x.number) (sym (after.seats 0 (Keeps q end.1.0) end.1.1).0) in
     ⊎_elim (λ (later : p.number < q.number). omega arith)
-    (λ (now : (q.number ≡ p.number) × (q.shut ≡ true) × (q.seen ≡ lanes)). absurd (nobody_inside lanes u after 0 q end.1 (record { shut = now.1; seen = now.2 }) seat lane number inside))
+    (λ (now : (q.number ≡ p.number) × (q.shut ≡ true) × (q.seen ≡ lanes)). absurd (nobody_inside lanes u after 0 q end.1.0 end.1.1 (record { shut = now.1; seen = now.2 }) seat lane number inside))
     end.2
 
 -- a view under which its seat is inside, under this number
 abbrev inside_under : ℕ → GateView → Bool
-inside_under n (Keeps p) = false
-inside_under n (Outside f) = false
+inside_under n (Keeps p h) = false
+inside_under n Outside = false
+inside_under n (Looked f) = false
+inside_under n (Full f) = false
 inside_under n (Left f) = false
 inside_under n Counted = false
 inside_under n (OneTooMany f) = false
@@ -225,8 +223,10 @@ lets_none t i f j n w out seat lane inside = ⊎_elim
     (at_set t.views j seat w (Inside lane n) inside)
 
 stepped_out : (n : ℕ) (k : ℕ) (v : GateView) → CountsIn k v → inside_under n (stepped_off v) ≡ false
-stepped_out n k (Keeps p) c = absurd c
-stepped_out n k (Outside f) c = refl
+stepped_out n k (Keeps p h) c = absurd c
+stepped_out n k Outside c = refl
+stepped_out n k (Looked f) c = refl
+stepped_out n k (Full f) c = refl
 stepped_out n k (Left f) c = refl
 stepped_out n k Counted c = refl
 stepped_out n k (OneTooMany f) c = refl
@@ -237,8 +237,10 @@ stepped_out n k (Broken j m) c = refl
 stepped_out n k (Restored j m) c = refl
 
 uncounted_out : (n : ℕ) (v : GateView) → MayUncount v → inside_under n (uncounted v) ≡ false
-uncounted_out n (Keeps p) c = absurd c
-uncounted_out n (Outside f) c = refl
+uncounted_out n (Keeps p h) c = absurd c
+uncounted_out n Outside c = refl
+uncounted_out n (Looked f) c = refl
+uncounted_out n (Full f) c = refl
 uncounted_out n (Left f) c = refl
 uncounted_out n Counted c = refl
 uncounted_out n (OneTooMany f) c = refl
@@ -256,9 +258,9 @@ counted_out n found = split (ltb found most_passes) refl
     split false e = let told : after_count found ≡ OneTooMany found = rw e refl in ap (inside_under n) told
 
 -- a look past the mark
-looked_out : (lanes : ℕ) (t : Table) (r : Kept lanes t) (n k : ℕ) (p : GatePlan) → Has t 0 (Keeps p) → Past n p → inside_under n (looked (get_or t.words 0 0) k) ≡ false
-looked_out lanes t r n k p keeper past =
-    let x : ℕ = get_or t.words 0 0 in let same = (r.seats 0 (Keeps p) keeper).0 in
+looked_out : (lanes : ℕ) (t : Table) (r : Kept lanes t) (n k : ℕ) (p : GatePlan) (h : ℕ) → Has t 0 (Keeps p h) → Past n p → inside_under n (looked (get_or t.words 0 0) k) ≡ false
+looked_out lanes t r n k p h keeper past =
+    let x : ℕ = get_or t.words 0 0 in let same = (r.seats 0 (Keeps p h) keeper).0 in
     dite (ℕ_discrete (x % 2) 0)
     (λ even. let told : looked x k ≡ Inside k (x / 2) = rw (eq-eqb (x % 2) 0 even) refl in
     let number : x / 2 ≡ p.number = half r.plan.shut r.plan.number x r.word ∙ sym (ap (λ (q : GatePlan). q.number) same) in
@@ -273,12 +275,14 @@ passed_out t j n v at seat lane inside = ⊎_elim
     (λ (here : (seat ≡ j) × (pass_made v ≡ Inside lane n)). subst (λ (x : ℕ). Has t x (Inside lane n)) (sym here.0) (subst (Has t j) (unmade v here.1) at))
     (λ (else : (seat ≢ j) × Has t seat (Inside lane n)). else.1)
     (at_set t.views j seat (pass_made v) (Inside lane n) old))
-    (λ (same : Outside 0 ≡ Inside lane n). absurd (not_both (ap (inside_under n) same ∙ eq-eqb n n refl)))
-    (at_snoc (set t.views j (pass_made v)) (Outside 0) (Inside lane n) seat inside)
+    (λ (same : Outside ≡ Inside lane n). absurd (not_both (ap (inside_under n) same ∙ eq-eqb n n refl)))
+    (at_snoc (set t.views j (pass_made v)) Outside (Inside lane n) seat inside)
   where
     unmade : (y : GateView) → pass_made y ≡ Inside lane n → y ≡ Inside lane n
-    unmade (Keeps p) e = absurd (not_both (ap (inside_under n) e ∙ eq-eqb n n refl))
-    unmade (Outside f) e = e
+    unmade (Keeps p h) e = absurd (not_both (ap (inside_under n) e ∙ eq-eqb n n refl))
+    unmade Outside e = e
+    unmade (Looked f) e = e
+    unmade (Full f) e = e
     unmade (Left f) e = e
     unmade Counted e = absurd (not_both (ap (inside_under n) e ∙ eq-eqb n n refl))
     unmade (OneTooMany f) e = e
@@ -289,35 +293,35 @@ passed_out t j n v at seat lane inside = ⊎_elim
     unmade (Restored k m) e = e
 
 -- no step past the mark lets anybody in under the number
-none_enters : (lanes n : ℕ) (t u : Table) (kind : Kind) (r : Kept lanes t) → GateStep lanes t kind u → (p : GatePlan) → Has t 0 (Keeps p) → Past n p
+none_enters : (lanes n : ℕ) (t u : Table) (kind : Kind) (r : Kept lanes t) → GateStep lanes t kind u → (p : GatePlan) (h : ℕ) → Has t 0 (Keeps p h) → Past n p
     → (seat lane : ℕ) → Has u seat (Inside lane n) → Has t seat (Inside lane n)
-none_enters lanes n t u (knocks j k v) r s p keeper past seat lane inside = lets_none t (8 * k + 8) one_more j n (Knocking k) refl seat lane (subst (λ (x : Table). Has x seat (Inside lane n)) s.3 inside)
-none_enters lanes n t u (looks j k) r s p keeper past seat lane inside =
-    lets_none t 0 (λ m. m) j n (looked (get_or t.words 0 0) k) (looked_out lanes t r n k p keeper past) seat lane (subst (λ (x : Table). Has x seat (Inside lane n)) s.1 inside)
-none_enters lanes n t u (looks_back j f) r s p keeper past seat lane inside = lets_none t 0 (λ m. m) j n (Left (get_or t.words 0 0)) refl seat lane (subst (λ (x : Table). Has x seat (Inside lane n)) s.1 inside)
-none_enters lanes n t u (leaves j k v) r s p keeper past seat lane inside = lets_none t (8 * k + 8) one_less j n (stepped_off v) (stepped_out n k v s.1) seat lane (subst (λ (x : Table). Has x seat (Inside lane n)) s.3 inside)
-none_enters lanes n t u (breaks j k m) r s p keeper past seat lane inside = lets_none t (8 * k + 8) one_less j n (Broken k m) refl seat lane (subst (λ (x : Table). Has x seat (Inside lane n)) s.2 inside)
-none_enters lanes n t u (restores j k m) r s p keeper past seat lane inside = lets_none t (8 * k + 8) one_more j n (Restored k m) refl seat lane (subst (λ (x : Table). Has x seat (Inside lane n)) s.2 inside)
-none_enters lanes n t u (counts j v) r s p keeper past seat lane inside =
+none_enters lanes n t u (knocks j k v) r s p h keeper past seat lane inside = lets_none t (8 * k + 8) one_more j n (Knocking k) refl seat lane (subst (λ (x : Table). Has x seat (Inside lane n)) s.3 inside)
+none_enters lanes n t u (looks j k) r s p h keeper past seat lane inside =
+    lets_none t 0 (λ m. m) j n (looked (get_or t.words 0 0) k) (looked_out lanes t r n k p h keeper past) seat lane (subst (λ (x : Table). Has x seat (Inside lane n)) s.1 inside)
+none_enters lanes n t u (looks_back j v) r s p h keeper past seat lane inside = lets_none t 0 (λ m. m) j n (Left (get_or t.words 0 0)) refl seat lane (subst (λ (x : Table). Has x seat (Inside lane n)) s.2 inside)
+none_enters lanes n t u (leaves j k v) r s p h keeper past seat lane inside = lets_none t (8 * k + 8) one_less j n (stepped_off v) (stepped_out n k v s.1) seat lane (subst (λ (x : Table). Has x seat (Inside lane n)) s.3 inside)
+none_enters lanes n t u (breaks j k m) r s p h keeper past seat lane inside = lets_none t (8 * k + 8) one_less j n (Broken k m) refl seat lane (subst (λ (x : Table). Has x seat (Inside lane n)) s.2 inside)
+none_enters lanes n t u (restores j k m) r s p h keeper past seat lane inside = lets_none t (8 * k + 8) one_more j n (Restored k m) refl seat lane (subst (λ (x : Table). Has x seat (Inside lane n)) s.2 inside)
+none_enters lanes n t u (counts j v) r s p h keeper past seat lane inside =
     lets_none t 2 one_more j n (after_count (get_or t.words 2 0)) (counted_out n (get_or t.words 2 0)) seat lane (subst (λ (x : Table). Has x seat (Inside lane n)) s.2 inside)
-none_enters lanes n t u (uncounts j v) r s p keeper past seat lane inside = lets_none t 2 one_less j n (uncounted v) (uncounted_out n v s.1) seat lane (subst (λ (x : Table). Has x seat (Inside lane n)) s.2 inside)
-none_enters lanes n t u (makes_pass j v) r s p keeper past seat lane inside = passed_out t j n v s.0 seat lane (subst (λ (x : Table). Has x seat (Inside lane n)) s.2 inside)
-none_enters lanes n t u (shuts j q) r s p keeper past seat lane inside = lets_none t 0 (λ _. gate_word q.number true) j n (Keeps (shut_plan q)) refl seat lane (subst (λ (x : Table). Has x seat (Inside lane n)) s.2 inside)
-none_enters lanes n t u (scans j q) r s p keeper past seat lane inside =
-    lets_none t (8 * q.seen + 8) (λ m. m) j n (scanned (get_or t.words (8 * q.seen + 8) 0) q) refl seat lane (subst (λ (x : Table). Has x seat (Inside lane n)) s.3 inside)
-none_enters lanes n t u (opens j q) r s p keeper past seat lane inside = lets_none t 0 (λ _. gate_word (q.number + 1) false) j n (Keeps (next_plan q)) refl seat lane (subst (λ (x : Table). Has x seat (Inside lane n)) s.2 inside)
-none_enters lanes n t u (counts_sleep j q m) r s p keeper past seat lane inside = lets_none t 1 (λ _. m) j n (Keeps q) refl seat lane (subst (λ (x : Table). Has x seat (Inside lane n)) s.1 inside)
+none_enters lanes n t u (uncounts j v) r s p h keeper past seat lane inside = lets_none t 2 one_less j n (uncounted v) (uncounted_out n v s.1) seat lane (subst (λ (x : Table). Has x seat (Inside lane n)) s.2 inside)
+none_enters lanes n t u (makes_pass j v) r s p h keeper past seat lane inside = passed_out t j n v s.0 seat lane (subst (λ (x : Table). Has x seat (Inside lane n)) s.2 inside)
+none_enters lanes n t u (shuts j q m) r s p h keeper past seat lane inside = lets_none t 0 (λ _. gate_word q.number true) j n (Keeps (shut_plan q) m) refl seat lane (subst (λ (x : Table). Has x seat (Inside lane n)) s.2 inside)
+none_enters lanes n t u (scans j q l) r s p h keeper past seat lane inside =
+    lets_none t (8 * q.seen + 8) (λ m. m) j n (scanned (get_or t.words (8 * q.seen + 8) 0) q l) refl seat lane (subst (λ (x : Table). Has x seat (Inside lane n)) s.3 inside)
+none_enters lanes n t u (opens j q m) r s p h keeper past seat lane inside = lets_none t 0 (λ _. gate_word (q.number + 1) false) j n (Keeps (next_plan q) m) refl seat lane (subst (λ (x : Table). Has x seat (Inside lane n)) s.2 inside)
+none_enters lanes n t u (counts_sleep j q m w) r s p h keeper past seat lane inside = lets_none t 1 (λ _. w) j n (Keeps q m) refl seat lane (subst (λ (x : Table). Has x seat (Inside lane n)) s.1 inside)
 
-run_past : (lanes n : ℕ) (t u : Table) (kinds : List Kind) → Kept lanes t → GateRun lanes t kinds u → (p : GatePlan) → Has t 0 (Keeps p) → Past n p
+run_past : (lanes n : ℕ) (t u : Table) (kinds : List Kind) → Kept lanes t → GateRun lanes t kinds u → (p : GatePlan) (h : ℕ) → Has t 0 (Keeps p h) → Past n p
     → (seat lane : ℕ) → Has u seat (Inside lane n) → Has t seat (Inside lane n)
-run_past lanes n t u [] r e p keeper past seat lane inside = subst (λ (x : Table). Has x seat (Inside lane n)) e inside
-run_past lanes n t u (kind ∷ kinds) r s p keeper past seat lane inside =
-    let after = goes_onward lanes t s.0 kind r s.1 p keeper in
-    none_enters lanes n t s.0 kind r s.1 p keeper past seat lane
-    (run_past lanes n s.0 u kinds (step_keeps lanes t s.0 kind r s.1) s.2 after.0 after.1 (past_onward lanes n p after.0 after.2 past) seat lane inside)
+run_past lanes n t u [] r e p h keeper past seat lane inside = subst (λ (x : Table). Has x seat (Inside lane n)) e inside
+run_past lanes n t u (kind ∷ kinds) r s p h keeper past seat lane inside =
+    let after = goes_onward lanes t s.0 kind r s.1 p h keeper in
+    none_enters lanes n t s.0 kind r s.1 p h keeper past seat lane
+    (run_past lanes n s.0 u kinds (step_keeps lanes t s.0 kind r s.1) s.2 after.0 after.1.0 after.1.1 (past_onward lanes n p after.0 after.2 past) seat lane inside)
 
 pub nobody_past_the_mark : NobodyPastTheMark
-nobody_past_the_mark lanes t u kinds r run p keeper shut seat lane inside = run_past lanes p.number t u kinds r run p keeper (inr (refl, shut)) seat lane inside
+nobody_past_the_mark lanes t u kinds r run p h keeper shut seat lane inside = run_past lanes p.number t u kinds r run p h keeper (inr (refl, shut)) seat lane inside
 
 pub opens_well : OpensWell
 opens_well lanes = opening_kept lanes

@@ -24,15 +24,18 @@ InsideOnLast = (lanes : ℕ) (t : Table) → Kept lanes t
 
 -- once the keeper saw all lanes empty since it shut the gate, nobody is inside
 abbrev pub ClosedIsEmpty : Type 0
-ClosedIsEmpty = (lanes : ℕ) (t : Table) → Kept lanes t → (p : GatePlan) → Has t 0 (Keeps p) → IsOver lanes p
+ClosedIsEmpty = (lanes : ℕ) (t : Table) → Kept lanes t
+    → (p : GatePlan) (n : ℕ) → Has t 0 (Keeps p n) → IsOver lanes p
     → (seat lane number : ℕ) → Has t seat (Inside lane number) → ⊥
 
 -- while the gate is shut, a look at its word lets nobody in
 abbrev pub ShutLetsNobodyIn : Type 0
-ShutLetsNobodyIn = (lanes : ℕ) (t : Table) → Kept lanes t → (p : GatePlan) → Has t 0 (Keeps p) → p.shut ≡ true
+ShutLetsNobodyIn = (lanes : ℕ) (t : Table) → Kept lanes t
+    → (p : GatePlan) (n : ℕ) → Has t 0 (Keeps p n) → p.shut ≡ true
     → (lane : ℕ) → looked (slice_index t.words 0) lane ≡ Turned lane (slice_index t.words 0)
 
 -- while the gate is open, a look at its word lets the caller in, under the number of the opening
 abbrev pub OpenLetsIn : Type 0
-OpenLetsIn = (lanes : ℕ) (t : Table) → Kept lanes t → (p : GatePlan) → Has t 0 (Keeps p) → p.shut ≡ false
+OpenLetsIn = (lanes : ℕ) (t : Table) → Kept lanes t
+    → (p : GatePlan) (n : ℕ) → Has t 0 (Keeps p n) → p.shut ≡ false
     → (lane : ℕ) → looked (slice_index t.words 0) lane ≡ Inside lane p.number

@@ -5,7 +5,7 @@ use lib.ListN.{get_elem?}
 use Rattle.atomic_table.specs.Table.{State}
 use Rattle.kf_gates.specs.declared.view.GatePlan.{GatePlan}
 use Rattle.kf_gates.specs.declared.view.GateView.{GateView}
-use Rattle.kf_gates.specs.declared.view.GateView.TheVariants.{Keeps, Outside, Left, Counted, OneTooMany, Knocking, Inside, Turned, Broken, Restored}
+use Rattle.kf_gates.specs.declared.view.GateView.TheVariants.{Keeps, Outside, Looked, Full, Left, Counted, OneTooMany, Knocking, Inside, Turned, Broken, Restored}
 
 abbrev pub Table : Type 0
 Table = State (Unit {0}) GateView
@@ -25,8 +25,10 @@ most_passes = 4294967296
 
 -- the seat is a pass: it counts in no lane, and has counted no pass that it has not made
 abbrev pub IsPass : GateView → Type 0
-IsPass (Keeps p) = ⊥
-IsPass (Outside f) = Unit {0}
+IsPass (Keeps p n) = ⊥
+IsPass Outside = Unit {0}
+IsPass (Looked f) = Unit {0}
+IsPass (Full f) = Unit {0}
 IsPass (Left f) = Unit {0}
 IsPass Counted = ⊥
 IsPass (OneTooMany f) = ⊥
@@ -38,8 +40,10 @@ IsPass (Restored k n) = ⊥
 
 -- the seat counts in this lane
 abbrev pub is_user : ℕ → GateView → Bool
-is_user lane (Keeps p) = false
-is_user lane (Outside f) = false
+is_user lane (Keeps p n) = false
+is_user lane Outside = false
+is_user lane (Looked f) = false
+is_user lane (Full f) = false
 is_user lane (Left f) = false
 is_user lane Counted = false
 is_user lane (OneTooMany f) = false
@@ -51,8 +55,10 @@ is_user lane (Restored k n) = k == lane
 
 -- the seat is inside, by this lane
 abbrev pub is_inside : ℕ → GateView → Bool
-is_inside lane (Keeps p) = false
-is_inside lane (Outside f) = false
+is_inside lane (Keeps p n) = false
+is_inside lane Outside = false
+is_inside lane (Looked f) = false
+is_inside lane (Full f) = false
 is_inside lane (Left f) = false
 is_inside lane Counted = false
 is_inside lane (OneTooMany f) = false
@@ -64,8 +70,10 @@ is_inside lane (Restored k n) = false
 
 -- how many passes the seat has counted that have no seat yet
 abbrev pub counted_by : GateView → ℕ
-counted_by (Keeps p) = bit p.spare
-counted_by (Outside f) = 0
+counted_by (Keeps p n) = bit p.spare
+counted_by Outside = 0
+counted_by (Looked f) = 0
+counted_by (Full f) = 0
 counted_by (Left f) = 0
 counted_by Counted = 1
 counted_by (OneTooMany f) = 1
@@ -77,8 +85,10 @@ counted_by (Restored k n) = 0
 
 -- how many seats it may still make
 abbrev pub due_from : GateView → ℕ
-due_from (Keeps p) = bit p.spare
-due_from (Outside f) = 0
+due_from (Keeps p n) = bit p.spare
+due_from Outside = 0
+due_from (Looked f) = 0
+due_from (Full f) = 0
 due_from (Left f) = 0
 due_from Counted = 1
 due_from (OneTooMany f) = 0
@@ -87,6 +97,11 @@ due_from (Inside k n) = 0
 due_from (Turned k f) = 0
 due_from (Broken k n) = 0
 due_from (Restored k n) = 0
+
+-- how many looks at lanes it has made, if it is the keeper's
+abbrev pub looks_of : GateView → ℕ
+looks_of (Keeps p n) = n
+looks_of other = 0
 
 -- the sum over all seats
 abbrev pub total : (GateView → ℕ) → List GateView → ℕ
@@ -104,8 +119,10 @@ NoneInside lane views = (j : ℕ) (v : GateView) → get_elem? views j ≡ some 
 -- what a seat may know. The first seat is the keeper's, and the only one that has the plan; a lane that is
 -- named is there; whoever is inside came under the last number
 abbrev pub Knows : ℕ → GatePlan → ℕ → GateView → Type 0
-Knows lanes p j (Keeps q) = (q ≡ p) × (j ≡ 0)
-Knows lanes p j (Outside f) = Unit {0}
+Knows lanes p j (Keeps q n) = (q ≡ p) × (j ≡ 0)
+Knows lanes p j Outside = Unit {0}
+Knows lanes p j (Looked f) = Unit {0}
+Knows lanes p j (Full f) = Unit {0}
 Knows lanes p j (Left f) = Unit {0}
 Knows lanes p j Counted = Unit {0}
 Knows lanes p j (OneTooMany f) = Unit {0}
@@ -128,4 +145,4 @@ pub record Kept (lanes : ℕ) (t : Table) : Type 0 where
 
 -- a new gate is shut under the number 0, nobody was ever inside, and the keeper may make the first pass
 abbrev pub opened : ℕ → GateView
-opened lanes = Keeps (record { number = 0; shut = true; seen = lanes; found = 0; spare = true })
+opened lanes = Keeps (record { number = 0; shut = true; seen = lanes; found = 0; spare = true }) 0

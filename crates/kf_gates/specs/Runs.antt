@@ -3,7 +3,7 @@ use Rattle.std.specs.Prelude.{◌≡◌, ℕ, ◌+◌, ◌*◌, ◌%◌, ◌<◌
 use Rattle.atomic_table.specs.Table.{opening}
 use Rattle.kf_gates.specs.declared.view.GatePlan.{GatePlan}
 use Rattle.kf_gates.specs.declared.view.GateView.{GateView}
-use Rattle.kf_gates.specs.declared.view.GateView.TheVariants.{Keeps, Outside, Left, Counted, OneTooMany, Knocking, Inside, Turned, Broken, Restored}
+use Rattle.kf_gates.specs.declared.view.GateView.TheVariants.{Keeps, Outside, Looked, Full, Left, Counted, OneTooMany, Knocking, Inside, Turned, Broken, Restored}
 use Rattle.kf_gates.specs.Rule.{Table, Kept, IsPass, gate_word, due_from, opened}
 use Rattle.kf_gates.specs.Steps.{after_count, looked, next_plan, pass_made, scanned, shut_plan, stepped_off, uncounted}
 use Rattle.kf_gates.specs.Laws.{Has, IsOver}
@@ -12,22 +12,24 @@ use Rattle.kf_gates.specs.Laws.{Has, IsOver}
 pub data Kind : Type 0 where
   knocks : ℕ → ℕ → GateView → Kind
   looks : ℕ → ℕ → Kind
-  looks_back : ℕ → ℕ → Kind
+  looks_back : ℕ → GateView → Kind
   leaves : ℕ → ℕ → GateView → Kind
   breaks : ℕ → ℕ → ℕ → Kind
   restores : ℕ → ℕ → ℕ → Kind
   counts : ℕ → GateView → Kind
   uncounts : ℕ → GateView → Kind
   makes_pass : ℕ → GateView → Kind
-  shuts : ℕ → GatePlan → Kind
-  scans : ℕ → GatePlan → Kind
-  opens : ℕ → GatePlan → Kind
-  counts_sleep : ℕ → GatePlan → ℕ → Kind
+  shuts : ℕ → GatePlan → ℕ → Kind
+  scans : ℕ → GatePlan → ℕ → Kind
+  opens : ℕ → GatePlan → ℕ → Kind
+  counts_sleep : ℕ → GatePlan → ℕ → ℕ → Kind
 
 -- a caller in this state counts in this lane, and may step off
 abbrev pub CountsIn : ℕ → GateView → Type 0
-CountsIn lane (Keeps p) = ⊥
-CountsIn lane (Outside f) = ⊥
+CountsIn lane (Keeps p n) = ⊥
+CountsIn lane Outside = ⊥
+CountsIn lane (Looked f) = ⊥
+CountsIn lane (Full f) = ⊥
 CountsIn lane (Left f) = ⊥
 CountsIn lane Counted = ⊥
 CountsIn lane (OneTooMany f) = ⊥
@@ -39,8 +41,10 @@ CountsIn lane (Restored k n) = k ≡ lane
 
 -- it has counted a pass that it does not make
 abbrev pub MayUncount : GateView → Type 0
-MayUncount (Keeps p) = ⊥
-MayUncount (Outside f) = ⊥
+MayUncount (Keeps p n) = ⊥
+MayUncount Outside = ⊥
+MayUncount (Looked f) = ⊥
+MayUncount (Full f) = ⊥
 MayUncount (Left f) = ⊥
 MayUncount Counted = Unit {0}
 MayUncount (OneTooMany f) = Unit {0}
@@ -70,7 +74,7 @@ abbrev pub with_pass : Table → ℕ → GateView → Table
 with_pass t j v = record {
   words = t.words;
   homes = t.homes;
-  views = slice_set t.views j (pass_made v) ++ Outside 0 ∷ [];
+  views = slice_set t.views j (pass_made v) ++ Outside ∷ [];
 }
 
 -- one step, as the machine makes it
@@ -79,7 +83,7 @@ GateStep lanes t (knocks j k v) u = Has t j v × IsPass v × (k < lanes)
     × (u ≡ moved t (8 * k + 8) one_more j (Knocking k))
 GateStep lanes t (looks j k) u = Has t j (Knocking k)
     × (u ≡ moved t 0 (λ n. n) j (looked (slice_index t.words 0) k))
-GateStep lanes t (looks_back j f) u = Has t j (Outside f)
+GateStep lanes t (looks_back j v) u = Has t j v × IsPass v
     × (u ≡ moved t 0 (λ n. n) j (Left (slice_index t.words 0)))
 GateStep lanes t (leaves j k v) u = Has t j v × CountsIn k v × (k < lanes)
     × (u ≡ moved t (8 * k + 8) one_less j (stepped_off v))
@@ -91,13 +95,13 @@ GateStep lanes t (counts j v) u = Has t j v × IsPass v
     × (u ≡ moved t 2 one_more j (after_count (slice_index t.words 2)))
 GateStep lanes t (uncounts j v) u = Has t j v × MayUncount v × (u ≡ moved t 2 one_less j (uncounted v))
 GateStep lanes t (makes_pass j v) u = Has t j v × (due_from v ≡ 1) × (u ≡ with_pass t j v)
-GateStep lanes t (shuts j p) u = Has t j (Keeps p) × (p.shut ≡ false)
-    × (u ≡ moved t 0 (λ _. gate_word p.number true) j (Keeps (shut_plan p)))
-GateStep lanes t (scans j p) u = Has t j (Keeps p) × (p.shut ≡ true) × (p.seen < lanes)
-    × (u ≡ moved t (8 * p.seen + 8) (λ n. n) j (scanned (slice_index t.words (8 * p.seen + 8)) p))
-GateStep lanes t (opens j p) u = Has t j (Keeps p) × IsOver lanes p
-    × (u ≡ moved t 0 (λ _. gate_word (p.number + 1) false) j (Keeps (next_plan p)))
-GateStep lanes t (counts_sleep j p n) u = Has t j (Keeps p) × (u ≡ moved t 1 (λ _. n) j (Keeps p))
+GateStep lanes t (shuts j p n) u = Has t j (Keeps p n) × (p.shut ≡ false)
+    × (u ≡ moved t 0 (λ _. gate_word p.number true) j (Keeps (shut_plan p) n))
+GateStep lanes t (scans j p n) u = Has t j (Keeps p n) × (p.shut ≡ true) × (p.seen < lanes)
+    × (u ≡ moved t (8 * p.seen + 8) (λ w. w) j (scanned (slice_index t.words (8 * p.seen + 8)) p n))
+GateStep lanes t (opens j p n) u = Has t j (Keeps p n) × IsOver lanes p
+    × (u ≡ moved t 0 (λ _. gate_word (p.number + 1) false) j (Keeps (next_plan p) n))
+GateStep lanes t (counts_sleep j p n w) u = Has t j (Keeps p n) × (u ≡ moved t 1 (λ _. w) j (Keeps p n))
 
 -- these steps, one after another
 abbrev pub GateRun : ℕ → Table → List Kind → Table → Type 0
@@ -123,12 +127,12 @@ RuleKept = (lanes : ℕ) (t u : Table) (kinds : List Kind) → Kept lanes t → 
 -- any later moment was inside when the gate was shut
 abbrev pub NobodyPastTheMark : Type 0
 NobodyPastTheMark = (lanes : ℕ) (t u : Table) (kinds : List Kind) → Kept lanes t → GateRun lanes t kinds u
-    → (p : GatePlan) → Has t 0 (Keeps p) → p.shut ≡ true
+    → (p : GatePlan) (n : ℕ) → Has t 0 (Keeps p n) → p.shut ≡ true
     → (seat lane : ℕ) → Has u seat (Inside lane p.number) → Has t seat (Inside lane p.number)
 
 -- once the keeper saw all lanes empty since it shut the gate, whoever is inside at any later moment came
 -- under a later number
 abbrev pub ClosedForGood : Type 0
 ClosedForGood = (lanes : ℕ) (t u : Table) (kinds : List Kind) → Kept lanes t → GateRun lanes t kinds u
-    → (p : GatePlan) → Has t 0 (Keeps p) → IsOver lanes p
+    → (p : GatePlan) (n : ℕ) → Has t 0 (Keeps p n) → IsOver lanes p
     → (seat lane number : ℕ) → Has u seat (Inside lane number) → p.number < number

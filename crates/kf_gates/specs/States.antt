@@ -7,7 +7,7 @@ use Rattle.kf_core.specs.declared.refusal.Refusal.{Refusal}
 use Rattle.kf_core.specs.declared.refusal.Refusal.TheVariants.{TooManyHolds, NoMemory}
 use Rattle.kf_gates.specs.declared.view.GatePlan.{GatePlan}
 use Rattle.kf_gates.specs.declared.view.GateView.{GateView}
-use Rattle.kf_gates.specs.declared.view.GateView.TheVariants.{Outside, Inside, Broken, Restored}
+use Rattle.kf_gates.specs.declared.view.GateView.TheVariants.{Outside, Looked, Full, Inside, Broken, Restored}
 use Rattle.kf_gates.specs.Rule.{gate_word, most_passes}
 
 -- which gate it is, and how many lanes it has
@@ -25,10 +25,12 @@ pub record ClosedState : Type 0 where
   pub seat : GateSeat
   pub plan : GatePlan
 
--- the keeper of a gate, whose seat knows this plan, and the value that it keeps
+-- the keeper of a gate, whose seat knows this plan and has looked at lanes this many times, and the value that
+-- it keeps
 pub record KeeperState (Kept : Type 0) : Type 0 where
   pub seat : GateSeat
   pub plan : GatePlan
+  pub looks : ℕ
   pub kept : Kept
 
 -- an opening of a gate: whose seat its keeper has, and its number
@@ -58,34 +60,33 @@ pub record CallState : Type 0 where
 
 -- what a call in this phase knows
 abbrev pub call_view : Phase → ℕ → ℕ → GateView
-call_view phase_of.Still lane number = Outside 0
-call_view phase_of.Turned lane number = Outside 0
+call_view phase_of.Still lane number = Outside
+call_view phase_of.Turned lane number = Outside
 call_view phase_of.Running lane number = Inside lane number
 call_view phase_of.Broken lane number = Broken lane number
 call_view phase_of.Restored lane number = Restored lane number
-call_view phase_of.Drained lane number = Outside 0
-call_view phase_of.Parted lane number = Outside 0
-call_view phase_of.Hiding lane number = Outside 0
-call_view phase_of.Hidden lane number = Outside 0
-call_view phase_of.Spent lane number = Outside 0
+call_view phase_of.Drained lane number = Outside
+call_view phase_of.Parted lane number = Outside
+call_view phase_of.Hiding lane number = Outside
+call_view phase_of.Hidden lane number = Outside
+call_view phase_of.Spent lane number = Outside
 
--- its last look found this word
-abbrev pub LastFound : PassState → ℕ → Type 0
-LastFound pass word = pass.view ≡ Outside word
-
--- its look found a gate that is not open under this number
+-- the look that it made in its lane found a gate that is not open under this number
 abbrev pub WasRefused : ℕ → PassState → Type 0
-WasRefused number pass = (word : ℕ) × LastFound pass word × (word ≢ gate_word number false)
+WasRefused number pass = (word : ℕ) × (pass.view ≡ Looked word) × (word ≢ gate_word number false)
 
--- the keeper's last look found somebody who counts in the next lane
-pub record FoundUser (lanes : ℕ) (p : GatePlan) : Type 0 where
-  pub lane : p.seen < lanes
-  pub found : 0 < p.found
+-- the keeper has looked at lanes since the old state, and its last look found somebody who counts in the next
+-- lane
+pub record FoundUser {Kept : Type 0} (old new : KeeperState Kept) : Type 0 where
+  pub looked : old.looks < new.looks
+  pub lane : new.plan.seen < new.seat.gate.lanes
+  pub found : 0 < new.plan.found
 
--- no pass is made if the gate has had as many as it may, or if its words can have no owner more
+-- no pass is made if the gate has had as many as it may, or if its words can have no owner more. Either way
+-- the pass that was counted is taken back
 abbrev pub PassRefused : PassState → Refusal → Type 0
-PassRefused by why =
-    ((why ≡ TooManyHolds) × ((made : ℕ) × LastFound by made × (most_passes ≤ made))) ⊎ (why ≡ NoMemory)
+PassRefused by why = ((why ≡ TooManyHolds) × ((made : ℕ) × (by.view ≡ Full made) × (most_passes ≤ made)))
+    ⊎ ((why ≡ NoMemory) × (by.view ≡ Outside))
 
 -- the same keeper, of the same opening, with the same value
 pub record KeepsOn {Kept : Type 0} (old new : KeeperState Kept) : Type 0 where

@@ -3,7 +3,7 @@ use Rattle.std.specs.Prelude.{◌≡◌, ℕ, ◌+◌, ◌*◌, ◌/◌, ◌%◌
 use Rattle.atomic_table.specs.Table.{Me, Step}
 use Rattle.kf_gates.specs.declared.view.GatePlan.{GatePlan}
 use Rattle.kf_gates.specs.declared.view.GateView.{GateView}
-use Rattle.kf_gates.specs.declared.view.GateView.TheVariants.{Keeps, Outside, Left, Counted, OneTooMany, Knocking, Inside, Turned, Broken, Restored}
+use Rattle.kf_gates.specs.declared.view.GateView.TheVariants.{Keeps, Outside, Looked, Full, Left, Counted, OneTooMany, Knocking, Inside, Turned, Broken, Restored}
 use Rattle.kf_gates.specs.Rule.{gate_word, most_passes}
 
 abbrev pub Seated : Type 0
@@ -11,10 +11,12 @@ Seated = Me (Unit {0}) GateView
 
 -- the seat has made the pass that it counted
 abbrev pub pass_made : GateView → GateView
-pass_made (Keeps p) = Keeps (record p { spare = false })
-pass_made (Outside f) = Outside f
+pass_made (Keeps p n) = Keeps (record p { spare = false }) n
+pass_made Outside = Outside
+pass_made (Looked f) = Looked f
+pass_made (Full f) = Full f
 pass_made (Left f) = Left f
-pass_made Counted = Outside 0
+pass_made Counted = Outside
 pass_made (OneTooMany f) = OneTooMany f
 pass_made (Knocking k) = Knocking k
 pass_made (Inside k n) = Inside k n
@@ -28,11 +30,13 @@ after_count found = if ltb found most_passes then Counted else OneTooMany found
 
 -- the seat has taken back what it counted. What it keeps of one too many is how many it found
 abbrev pub uncounted : GateView → GateView
-uncounted (Keeps p) = Keeps p
-uncounted (Outside f) = Outside f
+uncounted (Keeps p n) = Keeps p n
+uncounted Outside = Outside
+uncounted (Looked f) = Looked f
+uncounted (Full f) = Full f
 uncounted (Left f) = Left f
-uncounted Counted = Outside 0
-uncounted (OneTooMany f) = Outside f
+uncounted Counted = Outside
+uncounted (OneTooMany f) = Full f
 uncounted (Knocking k) = Knocking k
 uncounted (Inside k n) = Inside k n
 uncounted (Turned k f) = Turned k f
@@ -43,22 +47,28 @@ uncounted (Restored k n) = Restored k n
 abbrev pub looked : ℕ → ℕ → GateView
 looked found lane = if found % 2 == 0 then Inside lane (found / 2) else Turned lane found
 
--- the seat no longer counts in its lane. What it keeps is the word that its last look found
+-- the seat no longer counts in its lane. It keeps the word that its look there found, unless it broke its
+-- protection after that look
 abbrev pub stepped_off : GateView → GateView
-stepped_off (Keeps p) = Keeps p
-stepped_off (Outside f) = Outside f
+stepped_off (Keeps p n) = Keeps p n
+stepped_off Outside = Outside
+stepped_off (Looked f) = Looked f
+stepped_off (Full f) = Full f
 stepped_off (Left f) = Left f
 stepped_off Counted = Counted
 stepped_off (OneTooMany f) = OneTooMany f
 stepped_off (Knocking k) = Knocking k
-stepped_off (Inside k n) = Outside (gate_word n false)
-stepped_off (Turned k f) = Outside f
+stepped_off (Inside k n) = Looked (gate_word n false)
+stepped_off (Turned k f) = Looked f
 stepped_off (Broken k n) = Broken k n
-stepped_off (Restored k n) = Outside (gate_word n false)
+stepped_off (Restored k n) = Outside
 
 -- the keeper after a look at the next lane: one that is empty is done
-abbrev pub scanned : ℕ → GatePlan → GateView
-scanned found p = Keeps (record p { seen = (if found == 0 then p.seen + 1 else p.seen); found = found })
+abbrev pub scanned_plan : ℕ → GatePlan → GatePlan
+scanned_plan found p = record p { seen = (if found == 0 then p.seen + 1 else p.seen); found = found }
+
+abbrev pub scanned : ℕ → GatePlan → ℕ → GateView
+scanned found p n = Keeps (scanned_plan found p) (n + 1)
 
 -- the plan of a gate that was just shut, and of one that was just opened under the next number
 abbrev pub shut_plan : GatePlan → GatePlan
@@ -74,7 +84,7 @@ abbrev pub MakesLook : Step (Unit {0}) → Seated → ℕ → Seated → Type 0
 MakesLook st me found me' = (lane : ℕ) → me.0 ≡ Knocking lane → me'.0 ≡ looked found lane
 
 abbrev pub MakesLookBack : Step (Unit {0}) → Seated → ℕ → Seated → Type 0
-MakesLookBack st me found me' = (before : ℕ) → me.0 ≡ Outside before → me'.0 ≡ Left found
+MakesLookBack st me found me' = me'.0 ≡ Left found
 
 abbrev pub MakesLeave : Step (Unit {0}) → Seated → ℕ → Seated → Type 0
 MakesLeave st me found me' = me'.0 ≡ stepped_off me.0
@@ -92,13 +102,13 @@ abbrev pub MakesUncount : Step (Unit {0}) → Seated → ℕ → Seated → Type
 MakesUncount st me found me' = me'.0 ≡ uncounted me.0
 
 abbrev pub MakesShut : Step (Unit {0}) → Seated → ℕ → Seated → Type 0
-MakesShut st me found me' = (p : GatePlan) → me.0 ≡ Keeps p → me'.0 ≡ Keeps (shut_plan p)
+MakesShut st me found me' = (p : GatePlan) (n : ℕ) → me.0 ≡ Keeps p n → me'.0 ≡ Keeps (shut_plan p) n
 
 abbrev pub MakesScan : Step (Unit {0}) → Seated → ℕ → Seated → Type 0
-MakesScan st me found me' = (p : GatePlan) → me.0 ≡ Keeps p → me'.0 ≡ scanned found p
+MakesScan st me found me' = (p : GatePlan) (n : ℕ) → me.0 ≡ Keeps p n → me'.0 ≡ scanned found p n
 
 abbrev pub MakesOpening : Step (Unit {0}) → Seated → ℕ → Seated → Type 0
-MakesOpening st me found me' = (p : GatePlan) → me.0 ≡ Keeps p → me'.0 ≡ Keeps (next_plan p)
+MakesOpening st me found me' = (p : GatePlan) (n : ℕ) → me.0 ≡ Keeps p n → me'.0 ≡ Keeps (next_plan p) n
 
 -- a step on the count of those who sleep changes no view
 abbrev pub MakesSleepCount : Step (Unit {0}) → Seated → ℕ → Seated → Type 0

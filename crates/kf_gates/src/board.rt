@@ -10,11 +10,11 @@ ghost use Rattle.std.specs.Prelude.{◌≡◌, ℕ, ◌+◌, ◌*◌, ◌<◌, �
 ghost use Rattle.kf_gates.specs.declared.view.GatePlan.{GatePlan};
 ghost use Rattle.kf_gates.specs.declared.view.GateView.{GateView};
 ghost use Rattle.kf_gates.specs.declared.view.GateView.TheVariants as seat_of;
-ghost use Rattle.kf_gates.specs.Rule.{IsPass, due_from, opened};
+ghost use Rattle.kf_gates.specs.Rule.{IsPass, due_from, looks_of, opened};
 ghost use Rattle.kf_gates.specs.Runs.{CountsIn, MayUncount};
-ghost use Rattle.kf_gates.specs.Steps.{after_count, looked, next_plan, pass_made, scanned, shut_plan, stepped_off, uncounted};
+ghost use Rattle.kf_gates.specs.Steps.{after_count, looked, next_plan, pass_made, scanned_plan, shut_plan, stepped_off, uncounted};
 ghost use Rattle.kf_gates.specs.Laws.{IsOver};
-ghost use Rattle.kf_gates.specs.Board.{IsSameSeat};
+ghost use Rattle.kf_gates.specs.Board.{HasPlan, IsSameSeat};
 
 use crate::plays::{
     Breaks, Counts, CountsSleep, Knocks, Leaves, Looks, LooksBack, Opens, Passes, Restores, Scans,
@@ -51,7 +51,7 @@ impl Board {
         requires range { (0 < lanes) × (lanes ≤ 65535) }
         ensures table { IfOk result (λ r. r.1.table_id ≡ r.0.table.shared.table_id) }
         ensures lanes { IfOk result (λ r. r.0.lanes ≡ lanes) }
-        ensures keeps { IfOk result (λ r. (r.1.me.0 ≡ opened lanes) × (seat_of.Keeps r.2 ≡ opened lanes)) }
+        ensures keeps { IfOk result (λ r. (r.1.me.0 ≡ opened lanes) × (seat_of.Keeps r.2 0 ≡ opened lanes)) }
     {
         let mut words = vec![in alloc; 0u64; lanes as usize * 8 + 8]?;
         words[0] = 1;
@@ -73,7 +73,7 @@ impl Board {
         ensures same { IsSameSeat seat.old seat.new }
         ensures made { seat.new.me.0 ≡ pass_made seat.old.me.0 }
         ensures table { result.table_id ≡ self.now.table.shared.table_id }
-        ensures outside { result.me.0 ≡ seat_of.Outside 0 }
+        ensures outside { result.me.0 ≡ seat_of.Outside }
     {
         self.table.shared.split_seat::<Passes>(seat)
     }
@@ -184,11 +184,13 @@ impl Board {
     /// Shuts the gate.
     pub(crate) fn shut(&self, seat: &mut GateSeat, plan: GatePlan) -> GatePlan
         requires table { seat.old.table_id ≡ self.now.table.shared.table_id }
-        requires keeps { seat.old.me.0 ≡ seat_of.Keeps plan }
+        requires keeps { HasPlan plan seat.old.me.0 }
         requires open { plan.shut ≡ false }
         requires few { plan.number ≤ 4294967296 }
         ensures same { IsSameSeat seat.old seat.new }
-        ensures made { (seat.new.me.0 ≡ seat_of.Keeps result) × (result ≡ shut_plan plan) }
+        ensures keeps { HasPlan result seat.new.me.0 }
+        ensures made { result ≡ shut_plan plan }
+        ensures looks { looks_of seat.new.me.0 ≡ looks_of seat.old.me.0 }
     {
         self.table
             .shared
@@ -204,12 +206,13 @@ impl Board {
     /// Looks at the next lane.
     pub(crate) fn scan(&self, seat: &mut GateSeat, plan: GatePlan) -> GatePlan
         requires table { seat.old.table_id ≡ self.now.table.shared.table_id }
-        requires keeps { seat.old.me.0 ≡ seat_of.Keeps plan }
+        requires keeps { HasPlan plan seat.old.me.0 }
         requires shut { plan.shut ≡ true }
         requires lane { plan.seen < self.now.lanes }
         ensures same { IsSameSeat seat.old seat.new }
-        ensures made { (seat.new.me.0 ≡ seat_of.Keeps result)
-            × (seat_of.Keeps result ≡ scanned result.found plan) }
+        ensures keeps { HasPlan result seat.new.me.0 }
+        ensures made { result ≡ scanned_plan result.found plan }
+        ensures looks { looks_of seat.new.me.0 ≡ looks_of seat.old.me.0 + 1 }
     {
         let word = 8 * plan.seen as usize + 8;
         let found = self.table.shared.load::<Scans>(seat, word);
@@ -224,11 +227,13 @@ impl Board {
     /// Opens the gate under the next number.
     pub(crate) fn open(&self, seat: &mut GateSeat, plan: GatePlan) -> GatePlan
         requires table { seat.old.table_id ≡ self.now.table.shared.table_id }
-        requires keeps { seat.old.me.0 ≡ seat_of.Keeps plan }
+        requires keeps { HasPlan plan seat.old.me.0 }
         requires over { IsOver self.now.lanes plan }
         requires few { plan.number < 4294967296 }
         ensures same { IsSameSeat seat.old seat.new }
-        ensures made { (seat.new.me.0 ≡ seat_of.Keeps result) × (result ≡ next_plan plan) }
+        ensures keeps { HasPlan result seat.new.me.0 }
+        ensures made { result ≡ next_plan plan }
+        ensures looks { looks_of seat.new.me.0 ≡ looks_of seat.old.me.0 }
     {
         self.table
             .shared
@@ -244,7 +249,7 @@ impl Board {
 
     fn fall_asleep(&self, seat: &mut GateSeat)
         requires table { seat.old.table_id ≡ self.now.table.shared.table_id }
-        requires keeps { (p : GatePlan) × (seat.old.me.0 ≡ seat_of.Keeps p) }
+        requires keeps { (p : GatePlan) × HasPlan p seat.old.me.0 }
         ensures same { IsSameSeat seat.old seat.new × (seat.new.me.0 ≡ seat.old.me.0) }
     {
         self.table.shared.fetch_add::<CountsSleep>(seat, 1, 1);
@@ -252,7 +257,7 @@ impl Board {
 
     fn awake(&self, seat: &mut GateSeat)
         requires table { seat.old.table_id ≡ self.now.table.shared.table_id }
-        requires keeps { (p : GatePlan) × (seat.old.me.0 ≡ seat_of.Keeps p) }
+        requires keeps { (p : GatePlan) × HasPlan p seat.old.me.0 }
         ensures same { IsSameSeat seat.old seat.new × (seat.new.me.0 ≡ seat.old.me.0) }
     {
         self.table.shared.fetch_sub::<CountsSleep>(seat, 1, 1);
@@ -261,7 +266,7 @@ impl Board {
     /// Sleeps while the next lane is as it was found, which is not 0. It may return for no reason.
     pub(crate) fn rest<R: Wait>(&self, rt: &R, seat: &mut GateSeat, plan: GatePlan)
         requires table { seat.old.table_id ≡ self.now.table.shared.table_id }
-        requires keeps { seat.old.me.0 ≡ seat_of.Keeps plan }
+        requires keeps { HasPlan plan seat.old.me.0 }
         requires lane { plan.seen < self.now.lanes }
         ensures same { IsSameSeat seat.old seat.new × (seat.new.me.0 ≡ seat.old.me.0) }
     {

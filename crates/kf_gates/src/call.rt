@@ -18,8 +18,8 @@ pub struct GateCall {
     pub(crate) board: Arc<Board>,
     pub(crate) seat: GateSeat,
     pub(crate) lane: u32,
-    pub(crate) number: u64,
     pub(crate) phase: Phase,
+    pub(crate) number: u64,
 }
 
 impl Model for GateCall {

@@ -24,7 +24,7 @@ pub struct Closed {
 impl Model for Closed {
     ghost use Rattle.std.specs.Prelude.{◌≡◌, ◌≤◌, false};
     ghost use Rattle.std.specs.Arc.{arc_value};
-    ghost use Rattle.kf_gates.specs.declared.view.GateView.TheVariants.{Keeps};
+    ghost use Rattle.kf_gates.specs.Board.{HasPlan};
     ghost use Rattle.kf_gates.specs.Laws.{IsOver};
     ghost use Rattle.kf_gates.specs.States.{ClosedState};
 
@@ -39,7 +39,7 @@ impl Model for Closed {
     } };
 
     ghost invariant = { λ c. (c.seat.table_id ≡ (arc_value c.board).table.shared.table_id)
-        × (c.seat.me.0 ≡ Keeps c.plan) × IsOver (arc_value c.board).lanes c.plan
+        × HasPlan c.plan c.seat.me.0 × IsOver (arc_value c.board).lanes c.plan
         × (c.plan.number ≤ 4294967296) × (c.plan.spare ≡ false) };
 }
 

@@ -21,7 +21,8 @@ pub struct Keeper<T> {
 impl<T> Model for Keeper<T> {
     ghost use Rattle.std.specs.Prelude.{◌≡◌, ◌≤◌, ◌<◌, false};
     ghost use Rattle.std.specs.Arc.{arc_value};
-    ghost use Rattle.kf_gates.specs.declared.view.GateView.TheVariants.{Keeps};
+    ghost use Rattle.kf_gates.specs.Rule.{looks_of};
+    ghost use Rattle.kf_gates.specs.Board.{HasPlan};
     ghost use Rattle.kf_gates.specs.States.{KeeperState};
 
     ghost Value = { KeeperState T };
@@ -32,11 +33,12 @@ impl<T> Model for Keeper<T> {
         number = k.seat.id;
       };
       plan = k.plan;
+      looks = looks_of k.seat.me.0;
       kept = k.kept;
     } };
 
     ghost invariant = { λ k. (k.seat.table_id ≡ (arc_value k.board).table.shared.table_id)
-        × (k.seat.me.0 ≡ Keeps k.plan) × (k.plan.seen < (arc_value k.board).lanes)
+        × HasPlan k.plan k.seat.me.0 × (k.plan.seen < (arc_value k.board).lanes)
         × (k.plan.number ≤ 4294967296) × (k.plan.spare ≡ false) };
 }
 
@@ -67,6 +69,7 @@ impl<T> Keeper<T> {
     pub fn shut(&mut self)
         ensures shut { self.new.plan.shut ≡ true }
         ensures same { KeepsOn self.old self.new }
+        ensures looks { self.new.looks ≡ self.old.looks }
     {
         if self.plan.shut {
             return;
@@ -84,7 +87,7 @@ impl<T> Keeper<T> {
         ensures same { IfOk result (λ r. (r.0.seat ≡ self.seat) × (r.0.plan.number ≡ self.plan.number)) }
         ensures closed { IfOk result (λ r. IsOver self.seat.gate.lanes r.0.plan) }
         ensures back { IfErr result (λ keeper. KeepsOn self keeper × (keeper.plan.shut ≡ true)) }
-        ensures not_yet { IfErr result (λ keeper. FoundUser self.seat.gate.lanes keeper.plan) }
+        ensures not_yet { IfErr result (λ keeper. FoundUser self keeper) }
     {
         let Keeper {
             board,

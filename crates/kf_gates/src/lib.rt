@@ -8,8 +8,8 @@
 //!   `GateCall`. `GateCall::leave` goes out again, by a subtraction on the lane.
 //! - `Keeper::shut` marks the gate: from then on nobody is let in. `Keeper::wait_closed` sleeps until it has
 //!   seen each lane empty, one after the other, and gives the value back: nobody is inside.
-//! - `Pass::enter_quiet`, `GateCall::leave_quiet` and `Keeper::try_close` are for keepers that do not sleep on
-//!   the lanes, as those of the library for C.
+//! - `Pass::enter_quiet`, `GateCall::leave_quiet` and `Keeper::try_close` are for keepers that do not sleep
+//!   on the lanes, as those of the library for C.
 //!
 //! A gate has one keeper: `Closed` and `Keeper` cannot be copied, and each becomes the other. A pass belongs
 //! to its gate, and no call takes it to another. `gates_tell` are the laws.

@@ -62,8 +62,8 @@ impl Pass {
                 board,
                 seat,
                 lane,
-                number,
                 phase: Phase::Running,
+                number,
             });
         }
         board.step_off(&mut seat, lane);

@@ -11,7 +11,7 @@ impl Split<GateView> for Passes {
 
     ghost left = { pass_made };
 
-    ghost right = { λ _. Outside 0 };
+    ghost right = { λ _. Outside };
 }
 
 /// A caller counts one pass more.

@@ -1,5 +1,5 @@
-//! Through a gate by steps that wake nobody. They are for keepers that sleep elsewhere: whoever makes such a step
-//! wakes these, and they look again.
+//! Through a gate by steps that wake nobody. They are for keepers that sleep elsewhere: whoever makes such a
+//! step wakes these, and they look again.
 ghost use Rattle.std.specs.Prelude.{◌≡◌, ◌%◌, ◌==◌, ℕ, true, IfOk, IfErr, MatchResult};
 ghost use Rattle.kf_core.specs.Phases.{has_reference};
 ghost use Rattle.kf_core.specs.declared.caller.Phase.TheVariants as phase_of;
@@ -32,8 +32,8 @@ impl Pass {
                 board,
                 seat,
                 lane,
-                number,
                 phase: Phase::Running,
+                number,
             });
         }
         board.step_back(&mut seat, lane);

@@ -16,9 +16,15 @@ pub struct GatePlan {
 
 /// What a seat knows. The rule speaks of this type, and no value of it is ever made.
 pub enum GateView {
-    Keeps(GatePlan),
-    /// It counts in no lane. Its last look found this word, or this number of passes.
-    Outside(u64),
+    /// It is the keeper's, with this plan, and has looked at lanes this many times.
+    Keeps(GatePlan, u64),
+    /// It counts in no lane: a new pass, one whose call broke its protection, or one that took back the pass
+    /// that it had counted.
+    Outside,
+    /// It counts in no lane. While it counted in one, it looked, and found this word of the gate.
+    Looked(u64),
+    /// It counts in no lane. It took back the pass that was one too many: it had found this number of passes.
+    Full(u64),
     /// It counts in no lane. After it had left its lane it looked, and found this word of the gate.
     Left(u64),
     /// It has counted a pass that has no seat yet.
