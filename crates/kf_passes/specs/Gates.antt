@@ -43,9 +43,9 @@ HasClosed keeper closed hold due = (last_opening closed ≡ opening_of keeper)
     × WasLeft keeper.kept.call hold × WasALeave (seat_view keeper.kept.call) (seat_view hold)
     × (due ≡ owed hold)
 
--- the gate is shut, keeps its call, and its last look found somebody who counts in the next lane
+-- the gate is shut, keeps its call, and the last look of this call found somebody who counts in the next lane
 abbrev pub HasShut : KeeperState Entered → KeeperState Entered → Type 0
-HasShut old new = KeepsOn old new × (new.plan.shut ≡ true) × FoundUser old.seat.gate.lanes new.plan
+HasShut old new = KeepsOn old new × (new.plan.shut ≡ true) × FoundUser old new
 
 -- an open gate was closed so
 abbrev pub WasClosed : Gate → Gate → Handle → Owed → Type 0

@@ -136,8 +136,8 @@ fn shut(gate: Gate, _nothing: ()) -> (Gate, Option<(Hold, WakeDue)>)
 
 impl Gate {
     /// Shuts the gate (`percpu_ref_kill`), and looks at the lanes that it has not seen empty since. If all
-    /// are, the gate is closed: nobody is inside. Then its call leaves the node, in one step, and beside the hold
-    /// stands the wake that this step owes.
+    /// are, the gate is closed: nobody is inside. Then its call leaves the node, in one step, and beside the
+    /// hold stands the wake that this step owes.
     pub fn shut(&mut self) -> Option<(Hold, WakeDue)>
         ensures closed { IfSome result (λ r. WasClosed self.old self.new r.0 r.1) }
         ensures not_yet { IfNone result (IsShutStill self.old self.new) }
