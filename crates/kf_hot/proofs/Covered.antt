@@ -7,6 +7,6 @@ use Rattle.kf_hot.specs.Laws.{IsClosed, InsideIsCovered}
 
 pub inside_is_covered : InsideIsCovered
 inside_is_covered lanes t r w safe c key keeps seat lane number inside d phase is saw = ⊎_elim
-    (λ (closed : IsClosed lanes t). closed_is_empty lanes t r closed.0 closed.1 closed.2 seat lane number inside)
+    (λ (closed : IsClosed lanes t). closed_is_empty lanes t r closed.0 closed.1.0 closed.1.1 closed.2 seat lane number inside)
     (λ (runs : IsCaller w c key Running). safe.none_running d key phase is saw c runs)
     keeps

@@ -13,7 +13,7 @@ use Rattle.kf_gates.specs.Laws.{Has, IsOver}
 
 -- the keeper saw every lane empty since it shut the gate
 abbrev pub IsClosed : ℕ → Table → Type 0
-IsClosed lanes t = (p : GatePlan) × Has t 0 (Keeps p) × IsOver lanes p
+IsClosed lanes t = (p : GatePlan) × ((n : ℕ) × Has t 0 (Keeps p n)) × IsOver lanes p
 
 -- until the gate is closed, the call that it keeps is running on the key. A `Keeper` owns that call, and
 -- only the calls that see the gate closed give it back
