@@ -78,8 +78,8 @@ pub extern "C" fn kt_pass_leave(pass: &mut KtHandle) -> i32
 }
 
 /// Shuts a gate (`percpu_ref_kill`), and looks whether nobody is inside. 0 or 1 if so: then the gate's call
-/// is ended, its handle has the hold again, and 1 says that a removal or a hiding may wait for that. -EAGAIN if
-/// somebody is inside: the gate is shut then, and the call is made again.
+/// is ended, its handle has the hold again, and 1 says that a removal or a hiding may wait for that. -EAGAIN
+/// if its look found somebody inside: the gate is shut then, and the call is made again.
 #[unsafe(no_mangle)]
 pub extern "C" fn kt_shut(gate: &mut KtHandle) -> i32
     ensures shut { (result ≡ pos 0) ⊎ (result ≡ pos 1) →

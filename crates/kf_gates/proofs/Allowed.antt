@@ -62,7 +62,7 @@ number_of (Restored k n) = 0
 seated_as : (t : Table) (id : ℕ) (x v : GateView) → x ≡ v → get_elem? t.views id ≡ some x → Has t id v
 seated_as t id x v is at = subst (λ (y : GateView). get_elem? t.views id ≡ some y) is at
 
--- a keeper's seat has its plan, and has made so many looks
+-- a keeper's seat has its plan, and has looked this many times
 pub keeps_on : (v : GateView) (p : GatePlan) (n : ℕ) → v ≡ Keeps p n → HasPlan p v × (looks_of v ≡ n)
 keeps_on v p n e = (e ∙ ap (λ (v' : GateView). Keeps p (looks_of v')) (sym e), ap looks_of e)
 

@@ -5,7 +5,7 @@ use Rattle.kf_core.specs.declared.refusal.Refusal.TheVariants.{Invalid}
 use Rattle.kf_words.specs.Callers.{Handle, IsSameSeat, Owed, WasTurned}
 use Rattle.kf_passes.specs.declared.gate.Gate.{Gate}
 use Rattle.kf_passes.specs.declared.way.Way.{Way}
-use Rattle.kf_passes.specs.Gates.{IsClosed, IsOpenFor, IsShutStill, WasClosed}
+use Rattle.kf_passes.specs.Gates.{IsClosed, IsOpen, IsOpenFor, IsShutStill, WasClosed}
 use Rattle.kf_passes.specs.Ways.{IsKeptOut, IsOutside, IsSamePass, MadeAnother, NoOther, WasLetIn, WentOut}
 use Rattle.kf_handles.specs.declared.object.Object.{Object}
 use Rattle.kf_handles.specs.declared.object.Object.TheVariants as behind
@@ -50,9 +50,9 @@ WasShut (behind.Gate gate) (seat.Hold held) answer = (closed : Gate) × (due : O
     × WasClosed gate.value closed held.hold due × (answer ≡ wake_after held.hold.found)
 WasShut old new answer = ⊥
 
--- the gate is shut, and its keeper's last look found somebody in a lane
+-- an open gate is shut, and a look that this call made found somebody in a lane
 abbrev pub StaysShut : Object → Object → Type 0
-StaysShut (behind.Gate old) (behind.Gate new) = IsShutStill old.value new.value
+StaysShut (behind.Gate old) (behind.Gate new) = IsOpen old.value × IsShutStill old.value new.value
 StaysShut old new = ⊥
 
 -- it is no open gate

@@ -1,5 +1,5 @@
 //! A gate of a node, and passes of it, behind handles. Their steps need no lock and wake nobody.
-ghost use Rattle.std.specs.Prelude.{◌≡◌, ◌≢◌, ◌⊎◌, false, true, pos, negsuc, if◌then◌else◌, IfErr, IfOk};
+ghost use Rattle.std.specs.Prelude.{◌≡◌, ◌≢◌, ◌⊎◌, false, true, pos, negsuc, IfErr, IfOk};
 ghost use Rattle.kf_gates.specs.States.{IsLanes};
 ghost use Rattle.kf_handles.specs.Calls.{IsNothing, is_nothing};
 ghost use Rattle.kf_handles.specs.Gating.{IsNoGate, IsNoHold, IsNotWithin, MadeGate, MadePass, NoPass, NotGated, NotPassed, PassedIn, PassedOut, StaysPass, StaysShut, WasGated, WasShut};
