@@ -25,8 +25,8 @@ pub record ClosedState : Type 0 where
   pub seat : GateSeat
   pub plan : GatePlan
 
--- the keeper of a gate, whose seat knows this plan and has looked at lanes this many times, and the value that
--- it keeps
+-- the keeper of a gate, whose seat knows this plan and has looked at lanes this many times, and the value
+-- that it keeps
 pub record KeeperState (Kept : Type 0) : Type 0 where
   pub seat : GateSeat
   pub plan : GatePlan
