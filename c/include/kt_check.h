@@ -5,8 +5,8 @@
  * Under AddressSanitizer and ThreadSanitizer (gcc, clang), each call first uses its handles, and the last byte of names
  * and paths. So they report a handle after kt_delete() and a text that is shorter than its length. ThreadSanitizer also
  * reports a handle that two threads use at once, and calls on a tree without its lock. It also learns what happens
- * before what (kt_told.h), and in which order locks are taken (kt_order.h). kt_delete() of a call, and a key of another
- * tree (kt_keys.h), abort the program with a message.
+ * before what (kt_told.h), and in which order locks are taken (kt_order.h). kt_delete() of a call, of a pass that is
+ * inside or of an open gate, and a key of another tree (kt_keys.h), abort the program with a message.
  *
  * This tests nothing in the library. Without a sanitizer it is empty. */
 #include "kernfs_tree.h"
@@ -68,11 +68,11 @@ static inline int32_t kt_clear_told(struct kt_handle *handle)
     struct kt_key root = {0, 1};
     int32_t answer;
     kt_touch(handle->at);
-    kt_order_left(handle->at);
     kt_told_release(handle->at);
     kt_told_shown(handle->at, root); /* a tree's files, as it goes */
     answer = kt_clear(handle);
     if (answer >= 0) {
+        kt_order_left(handle->at); /* (after -EBUSY a pass is still inside) */
         kt_told_empty(handle->at, false);
         kt_keys_end(handle->at);
     }
@@ -98,14 +98,24 @@ static inline int32_t kt_create_root_with_looks_told(
     return answer;
 }
 
-/* Of a call kt_delete() may return 1, and most programs do not look: the threads that wait would sleep on. */
+/* Ends a program that deletes what it must end first. */
+static inline void kt_no_delete(const char *text)
+{
+    fprintf(stderr, "kernfs_tree: kt_delete() of %s\n", text);
+    abort();
+}
+
+/* Of a call kt_delete() may return 1, of a gate or a pass -EBUSY, and most programs do not look: threads would sleep on. */
 static inline int32_t kt_delete_told(struct kt_handle handle)
 {
     int32_t answer;
-    if (kt_leave(kt_used(&handle)) >= 0 || kt_restore(&handle) >= 0) {
-        fprintf(stderr, "kernfs_tree: kt_delete() of a call: leave it first, or call kt_clear_wake()\n");
-        abort();
-    }
+    if (kt_leave(kt_used(&handle)) >= 0 || kt_restore(&handle) >= 0)
+        kt_no_delete("a call: leave it first, or call kt_clear_wake()");
+    if (kt_pass_leave(&handle) >= 0)
+        kt_no_delete("a pass that is inside: leave it first");
+    answer = kt_shut(&handle);
+    if (answer >= 0 || answer == -EAGAIN)
+        kt_no_delete("an open gate: shut it first");
     answer = kt_clear_told(&handle);
     if (answer < 0)
         return answer;
@@ -312,20 +322,26 @@ static inline int32_t kt_unhide_told(struct kt_handle *tree, struct kt_key key)
     return kt_unhide(tree, key);
 }
 
+/* The result of a step that ended what a thread was inside by a handle, if it is 0 or more. */
+static inline int32_t kt_left_told(struct kt_handle *handle, int32_t answer)
+{
+    if (answer >= 0)
+        kt_order_left(handle->at);
+    return answer;
+}
+
 static inline int32_t kt_leave_told(struct kt_handle *call)
 {
     kt_touch(call->at);
-    kt_order_left(call->at);
     kt_told_release(call->at);
-    return kt_leave(call);
+    return kt_left_told(call, kt_leave(call));
 }
 
 static inline int32_t kt_break_told(struct kt_handle *call)
 {
     kt_touch(call->at);
-    kt_order_left(call->at);
     kt_told_release(call->at);
-    return kt_break(call);
+    return kt_left_told(call, kt_break(call));
 }
 
 /* `begun` is what is returned if the node was entered. */
@@ -362,7 +378,7 @@ static inline int32_t kt_gate_told(struct kt_handle *hold, uint32_t lanes, struc
 {
     int32_t answer = kt_gate(kt_used(hold), lanes, kt_used(pass));
     if (!answer)
-        kt_told_dup(hold->at, pass->at);
+        kt_told_gate(hold->at, pass->at);
     return answer;
 }
 
@@ -384,9 +400,8 @@ static inline int32_t kt_pass_enter_told(struct kt_handle *pass)
 static inline int32_t kt_pass_leave_told(struct kt_handle *pass)
 {
     kt_touch(pass->at);
-    kt_order_left(pass->at);
     kt_told_release(pass->at);
-    return kt_pass_leave(pass);
+    return kt_left_told(pass, kt_pass_leave(pass));
 }
 
 KT_CALL(1)

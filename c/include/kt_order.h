@@ -5,9 +5,11 @@
  *
  *     callback: in a call of a node, locks a mutex          remover: has that mutex locked, and waits for the node
  *
- * It looks at kt_remove_wait(), kt_remove_self_wait(), kt_hide_wait() and kt_live_unpublish(), and not at waits with a
- * time limit. If one of them waits for a node that its own thread is inside, the program is aborted with a message: it
- * would wait for itself. If another thread leaves a call than the one that entered it, nothing is reported about it. */
+ * It looks at kt_remove_wait(), kt_remove_self_wait(), kt_remove_gated_wait(), kt_hide_wait(), kt_live_unpublish() and
+ * kt_shut_wait(), and not at waits with a time limit. A gate is such a lock too, which a pass that is inside has for
+ * reading and kt_shut_wait() takes for writing. If one of them waits for a node or a gate that its own thread is inside,
+ * the program is aborted with a message: it would wait for itself. If another thread leaves a call than the one that
+ * entered it, nothing is reported about it. */
 #include "kernfs_tree.h"
 #ifndef KT_ORDER_H
 #define KT_ORDER_H
@@ -25,7 +27,7 @@ void __tsan_mutex_post_unlock(void *at, unsigned flags);
 /* for reading; and tried, so never waited for: nobody waits to enter */
 enum { KT_ORDER_READ = 1 << 3, KT_ORDER_TRIED = KT_ORDER_READ | 1 << 4, KT_ORDER_FAILED = 1 << 5, KT_ORDER_CALLS = 16 };
 
-/* A call that this thread is inside: the nodes that it is inside, and which of them it has locked here. */
+/* A call that this thread is inside: the nodes and the gate that it is inside, and which of them it has locked here. */
 struct kt_order_call {
     void *at;
     uint64_t turn;
@@ -37,7 +39,7 @@ struct kt_order_thread {
     struct kt_order_call calls[KT_ORDER_CALLS];
 };
 __attribute__((weak)) __thread struct kt_order_thread kt_order;
-/* A place that stands for a node: never read or written. */
+/* A place that stands for a node or a gate: never read or written. */
 __attribute__((weak)) struct { uint64_t place, rest; } kt_order_places[KT_TOLD_NODES];
 
 KT_UNSEEN bool kt_order_has(const struct kt_order_call *call, unsigned node)
@@ -105,11 +107,13 @@ KT_UNSEEN void kt_order_entered(void *at)
     call->count = it->count - 1;
     for (unsigned i = 0; i < call->count; i++)
         call->nodes[i] = it->nodes[i];
+    if (it->gate)
+        call->nodes[call->count++] = it->gate - 1; /* (in the place of the root) */
     kt_order_lock(call);
     kt_order.count++;
 }
 
-/* Before a call is left, broken or freed. */
+/* After a call was left, broken or freed. */
 KT_UNSEEN void kt_order_left(void *at)
 {
     struct kt_told_handle *it = kt_told_find(at, false);
@@ -118,16 +122,16 @@ KT_UNSEEN void kt_order_left(void *at)
     kt_order_prune();
 }
 
-/* Before a wait for a node, without the tree's lock. If `aside`, this thread's own calls there are broken meanwhile. */
-KT_UNSEEN void kt_order_waits(const void *tree, struct kt_key key, bool aside)
+/* Before a wait for the node or the gate of a place, without the tree's lock. If there is no text, this thread's own calls
+ * there are broken meanwhile; otherwise the program is aborted with the text. */
+KT_UNSEEN void kt_order_waits_at(unsigned node, const char *text)
 {
-    unsigned node = kt_told_place(tree, key);
     kt_order_prune();
     for (unsigned i = kt_order.count; i--;) {
         if (!kt_order_has(&kt_order.calls[i], node))
             continue;
-        if (!aside) {
-            fprintf(stderr, "kernfs_tree: a callback waits for the removal or hiding of a node that it is inside\n");
+        if (text) {
+            fprintf(stderr, "kernfs_tree: a callback waits for %s that it is inside\n", text);
             abort();
         }
         kt_order_unlock(&kt_order.calls[i]);
@@ -137,6 +141,20 @@ KT_UNSEEN void kt_order_waits(const void *tree, struct kt_key key, bool aside)
     for (unsigned i = 0; i < kt_order.count; i++)
         if (kt_order_has(&kt_order.calls[i], node))
             kt_order_lock(&kt_order.calls[i]);
+}
+
+/* Before a wait for a node. If `aside`, this thread's own calls there are broken meanwhile. */
+KT_UNSEEN void kt_order_waits(const void *tree, struct kt_key key, bool aside)
+{
+    kt_order_waits_at(kt_told_place(tree, key), aside ? NULL : "the removal or hiding of a node");
+}
+
+/* Before a wait for the passes of a gate. */
+KT_UNSEEN void kt_order_waits_gate(void *at)
+{
+    struct kt_told_handle *it = kt_told_find(at, false);
+    if (it && it->gate)
+        kt_order_waits_at(it->gate - 1, "the shutting of a gate");
 }
 #ifdef __cplusplus
 }
@@ -148,6 +166,7 @@ static inline void kt_order_waits(const void *tree, struct kt_key key, bool asid
 {
     (void)tree, (void)key, (void)aside;
 }
+static inline void kt_order_waits_gate(void *at) { (void)at; }
 #endif
 
 #endif /* KT_ORDER_H */

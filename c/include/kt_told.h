@@ -2,8 +2,9 @@
 /* kt_told.h: ThreadSanitizer annotations for programs that use kernfs_tree.h; kt_check.h includes this.
  *
  * What a call did happens before what follows the removal or the hiding of its node, or the removal of a node above it,
- * once that has returned 0 or more. What was done before kt_activate() and kt_unhide() happens before what follows a
- * kt_enter() there. This is kept for each node: a race of the program between callbacks of two nodes is still reported,
+ * once that has returned 0 or more. What was done inside by a pass also happens before what follows kt_shut() of its
+ * gate, once that has returned 0 or more. What was done before kt_activate() and kt_unhide() happens before what follows a
+ * kt_enter() there, or a kt_pass_enter(). This is kept for each node: a race of the program between callbacks of two nodes is still reported,
  * even if another node was removed in between.
  *
  * If kt_rename() has moved a node, all nodes of the tree count as one. If a program has more handles than there is room
@@ -30,6 +31,7 @@ struct kt_told_handle {
     void *at; /* of the handle, or NULL */
     uint64_t turn; /* of its call, or 0 (kt_order.h) */
     unsigned count, nodes[KT_TOLD_DEPTH];
+    unsigned gate; /* of a gate and its passes: 1 + its place among those of the nodes; else 0 */
 };
 
 /* Places that stand for nodes: released and acquired by the sanitizer, and else not used. Two nodes may have one. */
@@ -91,7 +93,7 @@ KT_UNSEEN void kt_told_empty(void *at, bool made)
 {
     struct kt_told_handle *it = kt_told_find(at, made);
     if (it)
-        it->count = 0, it->turn = 0;
+        it->count = 0, it->turn = 0, it->gate = 0;
 }
 
 KT_UNSEEN void kt_told_delete(void *at)
@@ -125,10 +127,22 @@ KT_UNSEEN void kt_told_dup(void *hold, void *other)
     if (!to)
         return;
     to->count = from ? from->count : 0;
+    to->gate = from ? from->gate : 0;
     for (unsigned i = 0; i < to->count; i++)
         to->nodes[i] = from->nodes[i];
     if (!from)
         kt_told_delete(other);
+}
+
+/* A gate was made of the node that a handle holds, and its first pass. */
+KT_UNSEEN void kt_told_gate(void *hold, void *pass)
+{
+    struct kt_told_handle *it = kt_told_find(hold, false);
+    struct kt_key number = {0, 0};
+    number.slot = (uint32_t)__atomic_add_fetch(&kt_told.turns, 1, __ATOMIC_RELAXED);
+    if (it)
+        it->gate = 1 + kt_told_place(hold, number);
+    kt_told_dup(hold, pass);
 }
 
 /* Before a call is left, broken or freed, and after it was entered. */
@@ -139,6 +153,8 @@ KT_UNSEEN void kt_told_release(void *at)
         __tsan_release(KT_LEFT);
     for (unsigned i = 0; it && i < it->count; i++)
         __tsan_release(&kt_told.left[it->nodes[i]]);
+    if (it && it->gate)
+        __tsan_release(&kt_told.left[it->gate - 1]);
 }
 
 KT_UNSEEN void kt_told_acquire(void *at)
@@ -150,13 +166,15 @@ KT_UNSEEN void kt_told_acquire(void *at)
         __tsan_acquire(&kt_told.shown[it->nodes[i]]);
 }
 
-/* After a gate is closed, of its handle. */
+/* After a gate is closed, of its handle, which has a hold again. */
 KT_UNSEEN void kt_told_closed(void *at)
 {
     struct kt_told_handle *it = kt_told_find(at, false);
     __tsan_acquire(KT_LEFT);
-    for (unsigned i = 0; it && i < it->count; i++)
-        __tsan_acquire(&kt_told.left[it->nodes[i]]);
+    if (it && it->gate)
+        __tsan_acquire(&kt_told.left[it->gate - 1]);
+    if (it)
+        it->gate = 0;
 }
 
 /* After a removal or a hiding is over, and before a node is shown. */
@@ -188,6 +206,7 @@ static inline void kt_told_hold(const struct kt_handle *tree, struct kt_key key,
     (void)tree, (void)key, (void)at;
 }
 static inline void kt_told_dup(void *hold, void *other) { (void)hold, (void)other; }
+static inline void kt_told_gate(void *hold, void *pass) { (void)hold, (void)pass; }
 static inline void kt_told_release(void *at) { (void)at; }
 static inline void kt_told_acquire(void *at) { (void)at; }
 static inline void kt_told_closed(void *at) { (void)at; }
