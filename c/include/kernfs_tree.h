@@ -35,15 +35,15 @@
  * one kt_unhide() shows the file. (A thread that still waits in kt_hide_wait() then hides it again.)
  *
  * Return values: 0 or more on success; a negative errno on failure, and then nothing has changed, not even what `out`
- * points to. There is one exception: after -EAGAIN the removal or the hiding has begun. Only the helpers of kt_wait.h,
- * which the end of this file includes, sleep, take a lock or call back. kt_strerror() of kt_tell.h has a text for each
- * number.
+ * points to. There is one exception: after -EAGAIN the removal, the hiding or the shutting has begun. Only the helpers of
+ * kt_wait.h, which the end of this file includes, sleep, take a lock or call back. kt_strerror() of kt_tell.h has a text
+ * for each number.
  *
  * Freeing what callbacks use:
  * - Any thread about to remove a node calls kt_claim() first, under the lock. It returns 0 to exactly one of them: that
  *   one frees.
- * - It frees once its own removal (kt_remove_wait(), or kt_remove_self_wait(), which claims the node itself) has
- *   returned, if no callback there breaks its protection.
+ * - It frees once its own removal (kt_remove_wait(), kt_remove_gated_wait(), or kt_remove_self_wait(), which claims the
+ *   node itself) has returned, if no callback there breaks its protection.
  * - A callback that breaks its protection is not waited for, so the program refcounts what it uses: the callback takes
  *   a reference before kt_break(), the remover drops one after the removal, and whoever drops the last one frees. After
  *   kt_break() the callback uses only what that count keeps. If it needs more after kt_restore(), it calls kt_stat()
@@ -56,8 +56,9 @@
  *   activated, or out of the tree; the hold was let in while its node was live; the call was left, broken or restored;
  *   the event number was raised.
  * - kt_gate() makes a gate only if the hold was let in while its node was live. kt_pass_enter() returns 0 only if a
- *   look found the gate open after the pass was counted, and -ENODEV only if it found the gate not open. kt_shut() returns 0
- *   or 1 only if the gate was shut, each lane was seen empty after that, and then the gate's call was left.
+ *   look found the gate open after the pass was counted, and -ENODEV only if it found the gate not open. kt_shut()
+ *   returns 0 or 1 only if the gate was shut, each lane was seen empty after that, and the gate's call was left. (No
+ *   clause says that the call was left last: a gate gives its call up only once it is closed, as its types have it.)
  * - kt_pass_leave() returns 1 exactly if a look after the pass was left found the gate shut.
  * - kt_leave() and kt_break() return 1 exactly if a removal or a hiding may be waiting for that step. kt_clear() and
  *   kt_delete() end a call, and then return 1 for the same reason. They also return 1 exactly if the hold that they
@@ -98,11 +99,12 @@
  * Rules for programs, which the library cannot check:
  * - A handle comes from kt_new(), is used by one function at a time, and not after kt_delete(). It may pass to another
  *   thread by what orders memory (a lock, a join, an atomic). So each thread that enters a node has its own hold
- *   (kt_dup() makes one from another thread's), and each that notifies (such as a driver's interrupt) its own post. If
- *   two share a hold, a removal may return with a callback inside.
+ *   (kt_dup() makes one from another thread's) or its own pass (kt_pass()), and each that notifies (such as a driver's
+ *   interrupt) its own post. If two share a hold or a pass, a removal may return with a callback inside. One thread at
+ *   a time shuts a gate: kt_gates.h says more.
  * - Calls that take a tree are made under one lock for each tree, which is yours, or by one thread. So are kt_clear()
- *   and kt_delete() of a tree. Calls that take a hold, a call, a post, an open file or a looker need no lock (but
- *   kt_looker() takes the tree).
+ *   and kt_delete() of a tree. Calls that take a hold, a call, a post, an open file, a looker, a gate or a pass need no
+ *   lock (but kt_looker() takes the tree).
  * - A key belongs to one tree: in another tree it may name another node (kt_keys.h reports it).
  * - Pointers are valid, lengths are those of what is there, a bool is 0 or 1, and no two arguments of a call overlap.
  * - malloc(), realloc() and free() belong to one allocator, which aligns to at least 8 bytes. No function is called in
@@ -204,7 +206,9 @@ struct kt_node_info {
 /* How many hold and use a node. */
 struct kt_node_counts {
     uint32_t holds; /* its holds and open files, also those that are inside, and one more if it is hidden */
-    uint32_t users; /* those that are inside; a kt_enter() that fails counts for a moment */
+    /* those that are inside, and each open gate as one, however many passes are inside; a kt_enter() that fails counts
+     * for a moment */
+    uint32_t users;
 };
 
 /* How many changes a tree has logged. */
@@ -419,9 +423,9 @@ KT_STEP(1) int32_t kt_restore(struct kt_handle *call);
 KT_CALL(1, 3) int32_t kt_gate(struct kt_handle *hold, uint32_t lanes, struct kt_handle *pass);
 
 /* Another pass of a pass's gate, behind a handle with nothing behind it, for another thread: by the lane of this
- * number, modulo the number of lanes. A pass does not keep the gate open, and may outlive it. 0, and in this order: -EINVAL
- * (something is behind the other handle, or there is no pass that is outside), -EMFILE (the gate has had 2^32 passes),
- * -ENOMEM. */
+ * number, modulo the number of lanes. A pass does not keep the gate open, and may outlive it; the lanes' memory is freed
+ * with the last pass. 0, and in this order: -EINVAL (something is behind the other handle, or there is no pass that is
+ * outside), -EMFILE (the gate has had 2^32 passes), -ENOMEM. */
 KT_CALL(1, 3) int32_t kt_pass(struct kt_handle *pass, uint32_t lane, struct kt_handle *other);
 
 /* Before a callback (percpu_ref_tryget_live). 0: the pass is inside, and kt_shut() waits for it. -ENODEV: the gate is

@@ -1,7 +1,17 @@
 /* SPDX-License-Identifier: MIT OR Apache-2.0 */
 /* kt_gates.h: gates and passes with the lock of a tree, and calls that wait until nobody is inside. kt_wait.h includes
- * this. It is C over the calls of kernfs_tree.h: tested, not proved. What kt_wait.h says of the lock, of threads that
- * end and of fork() holds here too. */
+ * this. It is C over the calls of kernfs_tree.h: tested, not proved. What kt_wait.h says of the lock and of fork() holds
+ * here too.
+ *
+ * One thread at a time uses a gate, and so it does for the whole of kt_shut_wait() and kt_remove_gated_wait(): until one
+ * of them returns, no other thread may use the gate's handle, or clear or free it. Other threads that remove the node
+ * call kt_remove_wait(), which does not use the gate. Each thread that goes inside has its own pass.
+ *
+ * Threads that end: if a thread is cancelled in a callback of kt_pass_run() or ends there by pthread_exit(), or if a C++
+ * exception leaves the callback, the pass is left. Between kt_pass_enter_wake() and kt_pass_leave_wake() nobody does
+ * so: a pass that is never left keeps its gate, and each removal of its node, waiting for ever. If a thread is cancelled
+ * while it waits here, the gate stays shut and keeps its call of the node. Then any thread calls kt_shut_wait() or
+ * kt_remove_gated_wait() again, which ends this; kt_remove_wait() of the node waits until one of them does. */
 #include "kernfs_tree.h"
 #ifndef KT_GATES_H
 #define KT_GATES_H
@@ -34,50 +44,119 @@ static inline int32_t kt_pass_leave_wake(struct kt_handle *pass, struct kt_lock 
     return 0;
 }
 
-/* Under the lock: shuts a gate, and waits until nobody is inside. */
-static inline int32_t kt_shut_locked(struct kt_handle *gate, struct kt_lock *lock)
+/* (What leaves a pass if its callback does not return.) */
+static inline void kt_pass_end_of(void *data)
+{
+    struct kt_ending *it = (struct kt_ending *)data;
+    kt_pass_leave_wake(it->call, it->lock);
+}
+
+/* Runs a callback by a pass, which is inside meanwhile. The callback gets the pass, and may leave it early, but not
+ * clear or free it. 0, and `out` gets what the callback returned; or the error of kt_pass_enter(), and the callback did
+ * not run. */
+KT_CALL(1, 2, 3, 5)
+static inline int32_t kt_pass_run_into(struct kt_handle *pass, struct kt_lock *lock, kt_callback *callback, void *data,
+                                       int64_t *out)
+{
+    struct kt_ending ending;
+    int32_t answer = kt_pass_enter_wake(pass, lock);
+    if (answer)
+        return answer;
+    ending.call = pass;
+    ending.lock = lock;
+    pthread_cleanup_push(kt_pass_end_of, &ending);
+    *out = callback(pass, data);
+    pthread_cleanup_pop(1);
+    return 0;
+}
+
+/* The same, if it does not matter whether an error is the callback's: what the callback returned, or kt_pass_enter(). */
+static inline int64_t kt_pass_run(struct kt_handle *pass, struct kt_lock *lock, kt_callback *callback, void *data)
+{
+    int64_t out = 0;
+    int32_t answer = kt_pass_run_into(pass, lock, callback, data, &out);
+    return answer ? answer : out;
+}
+
+/* (Under the lock: shuts a gate, and waits until nobody is inside or, unless `until` is NULL, until that time.) */
+static inline int32_t kt_shut_locked(struct kt_handle *gate, struct kt_lock *lock, const struct timespec *until)
 {
     int32_t answer;
-    while ((answer = kt_shut(gate)) == -EAGAIN)
-        pthread_cond_wait(&lock->left, &lock->mutex);
+    for (int waited = 0; (answer = kt_shut(gate)) == -EAGAIN && waited != ETIMEDOUT;)
+        waited = kt_sleep_until(lock, until);
     if (answer == 1)
         pthread_cond_broadcast(&lock->left);
     return answer < 0 ? answer : 0;
 }
 
-/* Shuts a gate, and waits until nobody is inside (percpu_ref_kill, and the wait for it). 0: nobody ever enters by a
- * pass of it, and its handle has the hold again; -EINVAL: there is no gate. A thread that is inside leaves first. */
-KT_CALL(1, 2)
-static inline int32_t kt_shut_wait(struct kt_handle *gate, struct kt_lock *lock)
+/* (The same, and it takes the lock. -ETIMEDOUT if that time has come.) */
+static inline int32_t kt_shut_until(struct kt_handle *gate, struct kt_lock *lock, const struct timespec *until)
 {
     int32_t answer;
     pthread_mutex_lock(&lock->mutex);
     pthread_cleanup_push(kt_unlock_of, lock);
-    answer = kt_shut_locked(gate, lock);
+    answer = kt_shut_locked(gate, lock, until);
     pthread_cleanup_pop(1);
-    return answer;
+    return answer == -EAGAIN ? -ETIMEDOUT : answer;
 }
 
-/* Removes the node of a gate, and everything below it, and waits until nobody is inside: it marks the nodes, shuts the
- * gate, and then waits for the passes and for all other callbacks. The gate's handle has the hold then, which the
- * program clears. Returns what kt_remove_wait() returns; after a refusal the gate is as it was, but after -ENOMEM it
- * may be shut: call it again. -EINVAL also if there is no gate: then the node may be marked, and kt_remove_wait() removes
- * it. (Another thread's kt_remove_wait() of this node waits until the gate is shut.) */
-KT_CALL(1, 3, 4)
-static inline int32_t kt_remove_gated_wait(struct kt_handle *tree, struct kt_key key, struct kt_handle *gate,
-                                           struct kt_lock *lock)
+/* (Takes the lock, removes a node, and shuts its gate as soon as the node is marked.) */
+static inline int32_t kt_remove_gated_until(struct kt_handle *tree, struct kt_handle *gate, struct kt_key key,
+                                            struct kt_lock *lock, const struct timespec *until)
 {
-    int32_t answer, shut = 0;
-    kt_order_waits(tree->at, key, false);
+    int32_t answer;
     pthread_mutex_lock(&lock->mutex);
     pthread_cleanup_push(kt_unlock_of, lock);
     answer = kt_remove(tree, key);
-    if (answer == -EAGAIN || answer >= 0)
-        shut = kt_shut_locked(gate, lock);
-    while (!shut && answer == -EAGAIN && (answer = kt_remove(tree, key)) == -EAGAIN)
-        pthread_cond_wait(&lock->left, &lock->mutex);
+    /* (if it is shut already, an earlier call has done so, and the removal goes on) */
+    if (answer == -EAGAIN && kt_shut_locked(gate, lock, until) != -EAGAIN)
+        answer = kt_step_until(kt_remove, tree, key, lock, until);
     pthread_cleanup_pop(1);
-    return shut ? shut : answer;
+    return answer == -EAGAIN ? -ETIMEDOUT : answer;
 }
+
+/* Shuts a gate, and waits until nobody is inside (percpu_ref_kill, and the wait for it). 0: nobody ever enters by a
+ * pass of it, and its handle has the hold again. -EINVAL: there is no gate, also if it was shut and closed before. A
+ * thread that is inside by a pass leaves first. */
+KT_CALL(1, 2)
+static inline int32_t kt_shut_wait(struct kt_handle *gate, struct kt_lock *lock)
+{
+    kt_order_waits_gate(gate->at);
+    return kt_shut_until(gate, lock, NULL);
+}
+
+/* Removes the node of a gate, and everything below it, and waits until nobody is inside: it marks the nodes, shuts the
+ * gate, and then waits for the passes and for all other callbacks. Returns what kt_remove_wait() returns. After 0 or 1
+ * nobody is inside, and the gate's handle has the hold, which the program clears. After a refusal (-ENOENT, -EINVAL,
+ * -EMFILE) the gate is as it was. After -ENOMEM everything may be marked and the gate shut: call it again. If the gate
+ * was shut and closed before, or if there is none, this is kt_remove_wait().
+ *
+ * Nothing checks that it is a gate of this node. Other gates below the node are shut before, each by kt_shut_wait(). */
+KT_CALL(1, 2, 4)
+static inline int32_t kt_remove_gated_wait(struct kt_handle *tree, struct kt_handle *gate, struct kt_key key,
+                                           struct kt_lock *lock)
+{
+    kt_order_waits(tree->at, key, false);
+    return kt_remove_gated_until(tree, gate, key, lock, NULL);
+}
+
+#if defined(TIME_UTC) || defined(CLOCK_REALTIME)
+/* The same two with a time limit, as kt_remove_wait_for(). -ETIMEDOUT if somebody is still inside then: the gate is shut
+ * and stays so, and for the second everything is marked too; call it again. */
+KT_CALL(1, 2)
+static inline int32_t kt_shut_wait_for(struct kt_handle *gate, struct kt_lock *lock, unsigned milliseconds)
+{
+    struct timespec until = kt_time_in(milliseconds);
+    return kt_shut_until(gate, lock, &until);
+}
+
+KT_CALL(1, 2, 4)
+static inline int32_t kt_remove_gated_wait_for(struct kt_handle *tree, struct kt_handle *gate, struct kt_key key,
+                                               struct kt_lock *lock, unsigned milliseconds)
+{
+    struct timespec until = kt_time_in(milliseconds);
+    return kt_remove_gated_until(tree, gate, key, lock, &until);
+}
+#endif
 
 #endif /* KT_GATES_H */

@@ -4,14 +4,16 @@
  *
  * To call kernfs_tree.h on a tree, take the lock with pthread_mutex_lock(&lock.mutex). Of the calls here, a thread that
  * has the lock may call only kt_remove_claimed(). Nothing checks this: kt_remove_wait() and the like would wait for
- * ever, and so would the others, also kt_run(), kt_read() and kt_poll(), once their node is gone.
+ * ever, and so would the others, also kt_run(), kt_pass_run(), kt_read() and kt_poll(), once their node is gone. (What
+ * stands in parentheses below is for the calls here, not for programs.)
  *
  * Threads that end: a thread that is cancelled (pthread_cancel()) while it waits here has unlocked the lock. What it
- * began stays begun: a node that was to be removed is marked, and another kt_remove_wait() ends it. Only after
- * kt_claim() cancelling is put off until the node is out. If a thread is cancelled in a callback or ends there by
- * pthread_exit(), or if a C++ exception leaves the callback, its call is left as if it had returned. Do not cancel
- * asynchronously, and let no longjmp() leave a callback. A thread that ends keeps its holds: clear them before, since a
- * hold keeps its slot from being reused, and a call that nobody leaves keeps each removal waiting.
+ * began stays begun: a node that was to be removed is marked, and another kt_remove_wait() ends it (kt_gates.h says what
+ * ends the shutting of a gate). Only after kt_claim() cancelling is put off until the node is out. If a thread is
+ * cancelled in a callback or ends there by pthread_exit(), or if a C++ exception leaves the callback, its call is left
+ * as if it had returned. Do not cancel asynchronously, and let no longjmp() leave a callback. A thread that ends keeps
+ * its holds: clear them before, since a hold keeps its slot from being reused, and a call that nobody leaves keeps each
+ * removal waiting.
  *
  * fork(): the child of a program with threads must not use the tree. Calls of the parent's other threads are inside for
  * ever in the child, and one of those threads may have had the lock. */
@@ -23,7 +25,7 @@
 #include <pthread.h>
 #include <time.h>
 
-/* The lock of a tree, and the condition for which its removals and hidings wait. */
+/* The lock of a tree, and the condition for which its removals, its hidings and kt_shut_wait() wait. */
 struct kt_lock {
     pthread_mutex_t mutex;
     pthread_cond_t left;
@@ -51,7 +53,7 @@ static inline void kt_lock_destroy(struct kt_lock *lock)
     pthread_mutex_destroy(&lock->mutex);
 }
 
-/* Wakes the threads that wait in a removal or a hiding. It takes the lock, so that no wake comes between a look and the
+/* Wakes the threads that wait in a removal, a hiding or kt_shut_wait(). It takes the lock, so that no wake comes between a look and the
  * sleep after it. */
 static inline void kt_wake(struct kt_lock *lock)
 {
@@ -105,17 +107,32 @@ static inline void kt_unlock_of(void *lock)
     pthread_mutex_unlock(&((struct kt_lock *)lock)->mutex);
 }
 
-/* Calls kt_remove(), kt_hide() or kt_unhide() until it returns something other than -EAGAIN, or, unless `until` is NULL,
- * until that time: then it returns -ETIMEDOUT. */
+/* (Under the lock: waits for the condition or, unless `until` is NULL, until that time, and then returns ETIMEDOUT.) */
+static inline int kt_sleep_until(struct kt_lock *lock, const struct timespec *until)
+{
+    return until ? pthread_cond_timedwait(&lock->left, &lock->mutex, until)
+                 : pthread_cond_wait(&lock->left, &lock->mutex);
+}
+
+/* (Under the lock: calls kt_remove(), kt_hide() or kt_unhide() until it returns something other than -EAGAIN or, unless
+ * `until` is NULL, until that time.) */
+static inline int32_t kt_step_until(int32_t (*step)(struct kt_handle *tree, struct kt_key key), struct kt_handle *tree,
+                                    struct kt_key key, struct kt_lock *lock, const struct timespec *until)
+{
+    int32_t answer;
+    for (int waited = 0; (answer = step(tree, key)) == -EAGAIN && waited != ETIMEDOUT;)
+        waited = kt_sleep_until(lock, until);
+    return answer;
+}
+
+/* (The same, and it takes the lock. -ETIMEDOUT if that time has come.) */
 static inline int32_t kt_until_done(int32_t (*step)(struct kt_handle *tree, struct kt_key key), struct kt_handle *tree,
                                     struct kt_key key, struct kt_lock *lock, const struct timespec *until)
 {
     int32_t answer;
     pthread_mutex_lock(&lock->mutex);
     pthread_cleanup_push(kt_unlock_of, lock);
-    for (int waited = 0; (answer = step(tree, key)) == -EAGAIN && waited != ETIMEDOUT;)
-        waited = until ? pthread_cond_timedwait(&lock->left, &lock->mutex, until)
-                       : pthread_cond_wait(&lock->left, &lock->mutex);
+    answer = kt_step_until(step, tree, key, lock, until);
     pthread_cleanup_pop(1);
     return answer == -EAGAIN ? -ETIMEDOUT : answer;
 }

@@ -162,7 +162,7 @@ static int inside(void)
 static int32_t removed(struct kt_key key, long turn)
 {
     if (turn % 2 == 0)
-        return kt_remove_gated_wait(&tree, key, &gate, &lock);
+        return kt_remove_gated_wait(&tree, &gate, key, &lock);
     must(kt_shut_wait(&gate, &lock), "shut");
     return kt_remove_wait(&tree, key, &lock);
 }

@@ -7,7 +7,8 @@ import shlex
 import sys
 
 # Functions of the headers that are no program's to call.
-INNER = {"kt_dump_line", "kt_unlock_of", "kt_end_of", "kt_show_into", "kt_until_done", "kt_time_in", "kt_shut_locked"}
+INNER = {"kt_dump_line", "kt_unlock_of", "kt_end_of", "kt_show_into", "kt_until_done", "kt_time_in", "kt_sleep_until"}
+INNER |= {"kt_step_until", "kt_pass_end_of", "kt_shut_locked", "kt_shut_until", "kt_remove_gated_until"}
 PROTOTYPE = re.compile(
     r"^(?:KT_\w+(?:\([\d, ]*\))?\s+)*(?:static inline )?((?:const char|struct kt_key|\w+) \*?(kt_\w+)\([^)]*\))\s*[;{]", re.M
 )
