@@ -12,13 +12,14 @@
  *         show_speed();                                        // the call is left at the end, also by an exception
  *     tree.remove_wait(fan);                                   // no callback runs there, and none ever starts
  *
- * - Each class owns its handle, and can be moved but not copied. One thread at a time uses a hold, a file or a post.
+ * - Each class owns its handle, and can be moved but not copied. One thread at a time uses a hold, a file, a post, a
+ *   gate or a pass.
  * - A call that fails throws kernfs::error, a std::system_error with the library's error number in generic_category().
- *   hold::enter() returns an empty call instead, since a node that is gone is no error.
+ *   hold::enter() returns an empty call instead, and pass::enter() an empty visit, since a node that is gone is no error.
  * - Calls on a tree are made by an `editor`, so they are never made without the lock. A thread that has an editor may
- *   enter and leave, and drop holds. If it waits (tree::remove_wait() and the like) or asks for a second editor, it would
- *   wait for itself: then std::logic_error is thrown.
- * - A tree must outlive the calls that run in it. Its holds and files may outlive it. */
+ *   enter and leave, and drop holds. If it waits (tree::remove_wait(), gate::shut_wait() and the like) or asks for a
+ *   second editor, it would wait for itself: then std::logic_error is thrown.
+ * - A tree must outlive the calls that run in it. Its holds, files, gates and passes may outlive it. */
 #ifndef KERNFS_TREE_HPP
 #define KERNFS_TREE_HPP
 
@@ -75,7 +76,7 @@ private:
     kt_handle raw_{nullptr};
 };
 
-/* The lock of a tree, in which its removals and hidings wait. It knows the thread that has it. */
+/* The lock of a tree, in which its removals and hidings and the ends of its gates wait. It knows the thread that has it. */
 class tree_lock {
 public:
     tree_lock() { must(kt_lock_init(&raw_)); }
@@ -98,7 +99,7 @@ public:
             throw std::logic_error("this thread has an editor of the tree: it would wait for itself");
         return &raw_;
     }
-    /* Wakes the threads that wait in a removal or a hiding, with the lock or without it. */
+    /* Wakes the threads that wait in a removal, a hiding or the end of a gate, with the lock or without it. */
     void wake() noexcept
     {
         if (is_mine())
@@ -189,6 +190,8 @@ public:
 protected:
     friend class editor;
     friend class file;
+    friend class gate;
+    friend class tree;
     explicit hold(std::shared_ptr<tree_lock> lock) : lock_(std::move(lock)) {}
     std::shared_ptr<tree_lock> lock_;
     handle own_;
@@ -233,6 +236,107 @@ public:
 private:
     friend class editor;
     using hold::hold;
+};
+
+/* What a callback by a pass runs under. Its destructor leaves. It is empty if the gate is shut. */
+class visit {
+public:
+    visit() = default;
+    visit(visit &&other) noexcept : raw_(std::exchange(other.raw_, nullptr)), lock_(other.lock_) {}
+    ~visit() { leave(); }
+    explicit operator bool() const noexcept { return raw_; }
+    void leave() noexcept
+    {
+        if (raw_ && kt_pass_leave(std::exchange(raw_, nullptr)) == 1)
+            lock_->wake();
+    }
+
+private:
+    friend class pass;
+    visit(kt_handle *raw, tree_lock *lock) : raw_(raw), lock_(lock) {}
+    kt_handle *raw_ = nullptr;
+    tree_lock *lock_ = nullptr;
+};
+
+/* A thread's way through a gate, by one of its lanes. It may outlive the gate. */
+class pass {
+public:
+    /* Before a callback. The visit is empty if the gate is shut. The pass must not move before the visit is left. */
+    visit enter()
+    {
+        std::int32_t entered = kt_pass_enter(own_.get());
+        if (entered == -ENODEV) {
+            lock_->wake();
+            return {};
+        }
+        must(entered);
+        return visit(own_.get(), lock_.get());
+    }
+    /* A pass for another thread, by the lane of this number, modulo the number of lanes. */
+    pass another(std::uint32_t lane)
+    {
+        pass other(lock_);
+        must(kt_pass(own_.get(), lane, other.own_.get()));
+        return other;
+    }
+
+private:
+    friend class gate;
+    explicit pass(std::shared_ptr<tree_lock> lock) : lock_(std::move(lock)) {}
+    std::shared_ptr<tree_lock> lock_;
+    handle own_;
+};
+
+/* A gate of a node, for an object that many threads call: each goes through it by its own pass. While it is open, a
+ * removal or a hiding of the node waits; tree::remove_gated_wait() removes both. Its destructor shuts it and waits until
+ * nobody is inside. If somebody is, and this thread has an editor, the program ends: it would wait for itself. */
+class gate {
+public:
+    /* Makes a gate of a hold. If this throws (ENODEV: the node is not live), the caller still has the hold. */
+    gate(hold &&of, std::uint32_t lanes) : first_(of.lock_), hold_(of.lock_)
+    {
+        std::int32_t made = kt_gate(of.own_.get(), lanes, first_.own_.get());
+        if (made == -ENODEV || made == -ENOMEM)
+            of.lock_->wake();
+        must(made);
+        hold_ = std::move(of);
+    }
+    gate(gate &&) = default;
+    gate &operator=(gate &&other) noexcept
+    {
+        std::swap(first_, other.first_);
+        hold_ = std::move(other.hold_);
+        return *this;
+    }
+    ~gate()
+    {
+        if (hold_.own_ && ended(kt_shut(hold_.own_.get())) == -EAGAIN)
+            (void)kt_shut_wait(hold_.own_.get(), hold_.lock_->unowned());
+    }
+    /* A pass by the lane of this number, modulo the number of lanes. */
+    kernfs::pass pass(std::uint32_t lane) { return first_.another(lane); }
+    /* Shuts the gate, and waits until nobody is inside. Nobody ever enters again by a pass of it. If it was shut and
+     * closed before, this fails with EINVAL. */
+    void shut_wait() { must(kt_shut_wait(hold_.own_.get(), hold_.lock_->unowned())); }
+    /* The same with a time limit. False if somebody is still inside: the gate stays shut, and it is called again. */
+    bool shut_wait_for(std::chrono::milliseconds limit)
+    {
+        auto shut =
+            kt_shut_wait_for(hold_.own_.get(), hold_.lock_->unowned(), static_cast<unsigned>(limit.count()));
+        return shut != -ETIMEDOUT && must(shut) == 0;
+    }
+
+private:
+    friend class tree;
+    /* The result of a kt_shut(), with the wake that is due after it. */
+    std::int32_t ended(std::int32_t result) noexcept
+    {
+        if (result == 1)
+            hold_.lock_->wake();
+        return result;
+    }
+    kernfs::pass first_; /* by lane 0; it makes the others, and is never inside */
+    hold hold_;
 };
 
 /* Reads and raises the event counter of a node's slot. */
@@ -368,6 +472,18 @@ public:
     bool remove_wait_for(key of, std::chrono::milliseconds limit)
     {
         auto removed = kt_remove_wait_for(own_.get(), of, lock_->unowned(), static_cast<unsigned>(limit.count()));
+        return removed != -ETIMEDOUT && must(removed) >= 0;
+    }
+    /* Removes the node of a gate and all below it, shuts the gate, and waits until nobody is inside. */
+    bool remove_gated_wait(gate &of, key its)
+    {
+        return must(kt_remove_gated_wait(own_.get(), of.hold_.own_.get(), its, lock_->unowned())) == 1;
+    }
+    /* The same with a time limit, as remove_wait_for(). The gate stays shut. */
+    bool remove_gated_wait_for(gate &of, key its, std::chrono::milliseconds limit)
+    {
+        auto removed = kt_remove_gated_wait_for(own_.get(), of.hold_.own_.get(), its, lock_->unowned(),
+                                                static_cast<unsigned>(limit.count()));
         return removed != -ETIMEDOUT && must(removed) >= 0;
     }
     /* Removes a call's node, or one above it, from inside. True for the first that does so. */
