@@ -311,7 +311,7 @@ public:
     ~gate()
     {
         if (hold_.own_ && ended(kt_shut(hold_.own_.get())) == -EAGAIN)
-            (void)kt_shut_wait(hold_.own_.get(), hold_.lock_->unowned());
+            (void)!kt_shut_wait(hold_.own_.get(), hold_.lock_->unowned());
     }
     /* A pass by the lane of this number, modulo the number of lanes. */
     kernfs::pass pass(std::uint32_t lane) { return first_.another(lane); }

@@ -10,7 +10,7 @@
 namespace {
 
 kt_lock lock = KT_LOCK_INIT;
-kt_handle tree, hold, file;
+kt_handle tree, hold, file, gate, pass;
 kt_live *live;
 kt_live_file *open_file;
 char text[8];
@@ -22,6 +22,7 @@ int64_t callback(kt_handle *call, void *)
     kt_break_wake(call, &lock);
     fail();
 }
+int64_t by_pass(kt_handle *, void *) { fail(); }
 int64_t show(kt_handle *, void *, char *) { fail(); }
 int64_t store(kt_handle *, void *, const char *, size_t) { fail(); }
 int64_t live_show(void *, const kt_attribute *, char *) { fail(); }
@@ -47,13 +48,17 @@ int main()
     kt_key root, key, dir;
     TRY(kt_new(&tree.at) || kt_new(&hold.at) || kt_new(&file.at) || kt_create_root(&tree, 16, 16) ||
             kt_root(&tree, &root) || kt_create_file(&tree, root, "f", 1, 0644, 0, true, &key) ||
-            kt_hold(&tree, key, &hold) || kt_open(&tree, key, true, true, &file),
+            kt_hold(&tree, key, &hold) || kt_open(&tree, key, true, true, &file) || kt_new(&gate.at) ||
+            kt_new(&pass.at) || kt_hold(&tree, key, &gate) || kt_gate(&gate, 1, &pass),
         0);
+    TRY(throws([] { return kt_pass_run(&pass, &lock, by_pass, nullptr); }), true);
+    TRY(kt_pass_leave(&pass), -EINVAL);
+    TRY(kt_shut_wait(&gate, &lock), 0);
     TRY(throws([] { return kt_run(&hold, &lock, callback, nullptr); }), true);
     TRY(throws([] { return kt_read(&file, &lock, 0, text, sizeof text, show, nullptr); }), true);
     TRY(throws([] { return kt_write(&file, &lock, "1", 1, store, nullptr); }), true);
     TRY(kt_remove_wait(&tree, key, &lock), 1);
-    TRY(kt_delete(hold) || kt_delete(file) || kt_delete(tree), 0);
+    TRY(kt_delete(pass) || kt_delete(gate) || kt_delete(hold) || kt_delete(file) || kt_delete(tree), 0);
 
     TRY(kt_live_new(&live, 16) || kt_live_publish(live, "/d", attributes, 1, nullptr, &dir) ||
             kt_live_open(live, "/d/speed", true, true, &open_file),

@@ -57,6 +57,7 @@ static void try_uses(void)
 {
     struct kt_key key = publish("uses", false);
     struct kt_handle other, none;
+    struct kt_node_counts counts;
     must(kt_new(&other.at), "new");
     must(kt_new(&none.at), "new");
     TRY(kt_gate(&gate, 4, &first), -ENODEV); /* it is not activated */
@@ -82,7 +83,12 @@ static void try_uses(void)
     TRY(kt_pass_leave(&other), 0);
     TRY(kt_clear(&first), -EBUSY);
     TRY(kt_clear(&gate), -EBUSY);
+#if !defined(KT_ASAN) && !defined(KT_TSAN) /* (these abort the program) */
     TRY(kt_delete(gate), -EBUSY);
+    TRY(kt_delete(first), -EBUSY);
+#endif
+    TRY(kt_counts(&tree, key, &counts), 0);
+    TRY(counts.users, 1); /* the gate, however many passes are inside */
     TRY(kt_remove(&tree, key), -EAGAIN);
     TRY(kt_pass_enter(&other), 0); /* a removal that does not know of the gate waits */
     TRY(kt_pass_leave(&other), 0);
@@ -172,6 +178,7 @@ static int turn(long number)
 {
     struct kt_key key = publish("object", true);
     int wrong = 0;
+    alarm(300); /* a thread that is never woken ends the program */
     object = calloc(1, sizeof *object);
     must(object ? 0 : -ENOMEM, "object");
     must(kt_gate(&gate, THREADS, &first), "gate");

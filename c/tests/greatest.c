@@ -11,7 +11,7 @@
 static const uint32_t freed[] = {1048575, 8191, 777777, 64, 65536, 8192, 1048512, 65535, 63, 1048511, 2};
 enum { FREED = sizeof freed / sizeof *freed };
 
-static struct kt_handle tree, hold;
+static struct kt_handle tree, hold, pass;
 static struct kt_key root, key;
 
 static struct kt_key first_of(uint32_t slot) { return (struct kt_key){slot, 1}; }
@@ -48,13 +48,28 @@ static int32_t use(struct kt_key node)
     return status ? status : kt_clear(&hold);
 }
 
+/* Goes through a gate of a node, which is removed meanwhile. */
+static void try_gate(struct kt_key node)
+{
+    TRY(kt_hold(&tree, node, &hold), 0);
+    TRY(kt_gate(&hold, 2, &pass), 0);
+    TRY(kt_pass_enter(&pass), 0);
+    TRY(kt_remove(&tree, node), -EAGAIN);
+    TRY(kt_pass_leave(&pass), 0);
+    TRY(kt_shut(&hold), 1);
+    TRY(kt_pass_enter(&pass), -ENODEV);
+    TRY(kt_remove(&tree, node), 1);
+    TRY(kt_clear(&hold), 0);
+    TRY(kt_clear(&pass), 0);
+}
+
 int main(void)
 {
     struct kt_key dir;
     struct kt_node_info info;
     uint32_t sorted[FREED];
     int32_t refusal;
-    TRY(kt_new(&tree.at) || kt_new(&hold.at), 0);
+    TRY(kt_new(&tree.at) || kt_new(&hold.at) || kt_new(&pass.at), 0);
     TRY(kt_create_root(&tree, KT_SLOTS_MAX, 4), 0);
     TRY(kt_root(&tree, &root), 0);
     TRY(kt_create_dir(&tree, root, "d", 1, true, &dir), 0);
@@ -63,7 +78,8 @@ int main(void)
     TRY(use(first_of(KT_SLOTS_MAX - 1)), 0);
     TRY(use(first_of(KT_SLOTS_MAX)), -ENOENT);
 
-    for (int i = 0; i < FREED; i++)
+    try_gate(first_of(freed[0]));
+    for (int i = 1; i < FREED; i++)
         TRY(kt_remove(&tree, first_of(freed[i])), 1);
     TRY(use(first_of(KT_SLOTS_MAX - 1)), -ENOENT);
     memcpy(sorted, freed, sizeof freed);
@@ -92,6 +108,7 @@ int main(void)
     TRY(kt_remove(&tree, dir), 1);
     char name[8];
     TRY(kt_next(&tree, root, "", 0, name, sizeof name), 4); /* only "more" is left */
+    TRY(kt_delete(pass), 0);
     TRY(kt_delete(hold), 0);
     TRY(kt_delete(tree), 0);
     return tried();

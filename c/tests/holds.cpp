@@ -1,8 +1,10 @@
 /* SPDX-License-Identifier: MIT OR Apache-2.0 */
-/* kernfs_tree.hpp: holds, files and posts of a fan that goes while two threads enter it, and what a thread may not do
- * while it has an editor. It prints a line for each test that fails; the last line is 'N passed, M failed'. */
+/* kernfs_tree.hpp: holds, files and posts of a fan that goes while two threads enter it, gates and passes, and what a
+ * thread may not do while it has an editor. It prints a line for each test that fails; the last line is 'N passed, M
+ * failed'. A signal ends a program that hangs. */
 #include <iostream>
 #include <kernfs_tree.hpp>
+#include <unistd.h>
 #include <unordered_set>
 
 namespace {
@@ -152,15 +154,101 @@ void holds_of_two_trees()
     expect("a hold that was moved", bool(b.enter()));
 }
 
+void gates_and_passes()
+{
+    std::chrono::milliseconds soon(20);
+    kernfs::tree tree(8, 8);
+    auto edit = tree.edit();
+    auto file = edit.create_file(edit.root(), "hot", 0444, 0, false);
+    auto hold = edit.hold(file);
+    expect("no gate of a node that is not live", error_of([&] { kernfs::gate none(std::move(hold), 2); }) == ENODEV);
+    edit.activate(file);
+    expect("its hold is still there", bool(hold.enter()));
+    expect("no gate without lanes", error_of([&] { kernfs::gate none(std::move(hold), 0); }) == EINVAL);
+    kernfs::gate gate(std::move(hold), 2);
+    expect("no shutting with an editor", throws<std::logic_error>([&] { gate.shut_wait(); }));
+    edit.unlock();
+    auto first = gate.pass(0), second = first.another(1);
+    {
+        auto visit = first.enter();
+        expect("inside by a pass", visit && error_of([&] { first.enter(); }) == EINVAL);
+        expect("another too", bool(second.enter()));
+        expect("a shutting with a limit", !gate.shut_wait_for(soon));
+        expect("a gate that is shut", !second.enter());
+        expect("a removal with a limit", !tree.remove_gated_wait_for(gate, file, soon));
+        visit.leave();
+        expect("a visit that was left", !visit && gate.shut_wait_for(std::chrono::hours(1)));
+    }
+    expect("a gate that was closed", error_of([&] { gate.shut_wait(); }) == EINVAL);
+    expect("a removal", tree.remove_gated_wait(gate, file) && !tree.remove_gated_wait(gate, file));
+    expect("a pass may outlive its node", !first.enter());
+}
+
+void visits_that_end()
+{
+    kernfs::tree tree(8, 8);
+    auto edit = tree.edit();
+    auto file = edit.create_file(edit.root(), "hot", 0444, 0);
+    kernfs::gate gate(edit.hold(file), 2), other(edit.hold(file), 1);
+    edit.unlock();
+    auto pass = gate.pass(1), its = other.pass(0);
+    expect("a callback that throws", throws<std::runtime_error>([&] {
+               auto visit = pass.enter();
+               throw std::runtime_error("no sensor");
+           }));
+    expect("its visit was left", bool(pass.enter()));
+    other = std::move(gate); // each gate goes with its pass
+    expect("a gate that was moved", other.pass(0).enter() && pass.enter() && its.enter());
+    { kernfs::gate last(std::move(gate)); }
+    expect("the other was shut by its destructor", !its.enter() && pass.enter());
+    expect("a removal through the first", tree.remove_gated_wait(other, file) && !pass.enter());
+}
+
+/* The destructor of a gate waits for the thread that is inside. */
+void gate_that_goes()
+{
+    kernfs::tree tree(8, 8);
+    auto edit = tree.edit();
+    auto file = edit.create_file(edit.root(), "hot", 0444, 0);
+    auto gate = std::make_unique<kernfs::gate>(edit.hold(file), 2);
+    edit.unlock();
+    std::atomic<bool> is_inside{false}, may_leave{false}, has_left{false}, was_left{false};
+    auto own = gate->pass(0), look = gate->pass(1);
+    std::thread user([&] {
+        auto visit = own.enter();
+        is_inside = bool(visit);
+        while (!may_leave)
+            std::this_thread::yield();
+        has_left = true;
+    });
+    while (!is_inside)
+        std::this_thread::yield();
+    std::thread closer([&] {
+        gate.reset();
+        was_left = has_left.load();
+    });
+    while (look.enter())
+        std::this_thread::yield();
+    may_leave = true;
+    user.join();
+    closer.join();
+    expect("the gate waits for a visit", was_left);
+    expect("a removal without it", tree.remove_wait(file));
+}
+
 } // namespace
 
 int main()
 {
+    alarm(300);
     names_and_keys();
     editors_and_waits();
     files_and_posts();
     removal_under_load();
     holds_of_two_trees();
+    gates_and_passes();
+    visits_that_end();
+    gate_that_goes();
     std::cout << passed << " passed, " << failed << " failed\n";
     return failed != 0;
 }

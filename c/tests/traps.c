@@ -1,14 +1,15 @@
 /* SPDX-License-Identifier: MIT OR Apache-2.0 */
 /* Threads that are cancelled, or that end by pthread_exit(), in callbacks and in waits: no lock stays locked, no call
- * stays inside, and each removal ends. It prints a line for each test; the last line is 'N passed, M failed'. */
+ * and no pass stays inside, and each removal and each shutting of a gate ends. A signal ends a program that hangs. It prints a line for each test; the last line is 'N passed, M failed'. */
 #include <kt_live.h>
 #include <sched.h>
 #include <stdatomic.h>
+#include <unistd.h>
 
 #include "trying.h"
 
 static struct kt_lock lock = KT_LOCK_INIT;
-static struct kt_handle tree, hold, file, other;
+static struct kt_handle tree, hold, file, other, pass;
 static struct kt_key root, key;
 static struct kt_live *live;
 static struct kt_live_file *open_file;
@@ -51,6 +52,7 @@ static int64_t live_store(void *device, const struct kt_attribute *attribute, co
 static int64_t live_function(void *device, void *data) { return (void)device, (void)data, stay(); }
 static const struct kt_attribute attributes[] = {{"speed", 0644, live_show, live_store, 0}};
 
+static void *passes(void *out) { return kt_pass_run(&pass, &lock, callback, NULL) ? out : NULL; }
 static void *runs(void *out) { return kt_run(&hold, &lock, callback, NULL) ? out : NULL; }
 static void *reads(void *out) { return kt_read(&file, &lock, 0, NULL, 0, show, NULL) ? out : NULL; }
 static void *writes(void *out) { return kt_write(&file, &lock, "1", 1, store, NULL) ? out : NULL; }
@@ -72,6 +74,23 @@ static void *hides(void *out)
     return kt_hide_wait(&tree, key, &lock) ? out : NULL;
 }
 
+/* Waits for the pass, and for what `other` is inside. (The hold is a gate.) */
+static void *shuts(void *out)
+{
+    atomic_store(&inside, 1);
+    return kt_shut_wait(&hold, &lock) ? out : NULL;
+}
+static void *shuts_long(void *out)
+{
+    atomic_store(&inside, 1);
+    return kt_shut_wait_for(&hold, &lock, 3600 * 1000) ? out : NULL;
+}
+static void *removes_gated(void *out)
+{
+    atomic_store(&inside, 1);
+    return kt_remove_gated_wait(&tree, &hold, key, &lock) ? out : NULL;
+}
+
 /* Runs this in a thread that is cancelled once it is inside, or ends there itself. Whether it did. */
 static bool ends(void *(*what)(void *), bool by_itself)
 {
@@ -91,7 +110,8 @@ static bool ends(void *(*what)(void *), bool by_itself)
 /* A new tree with a file, a hold, another hold and an open file of it. */
 static void begin(void)
 {
-    if (kt_new(&tree.at) || kt_new(&hold.at) || kt_new(&file.at) || kt_new(&other.at) ||
+    alarm(300);
+    if (kt_new(&tree.at) || kt_new(&hold.at) || kt_new(&file.at) || kt_new(&other.at) || kt_new(&pass.at) ||
         kt_create_root(&tree, 16, 16) || kt_root(&tree, &root) ||
         kt_create_file(&tree, root, "f", 1, 0644, 0, true, &key) || kt_hold(&tree, key, &hold) ||
         kt_open(&tree, key, true, true, &file) || kt_hold(&tree, key, &other))
@@ -103,7 +123,7 @@ static void end(void)
     (void)kt_clear_wake(&hold, &lock);
     (void)kt_clear_wake(&file, &lock);
     (void)kt_clear_wake(&other, &lock);
-    TRY(kt_delete(hold) || kt_delete(file) || kt_delete(other) || kt_delete(tree), 0);
+    TRY(kt_delete(hold) || kt_delete(file) || kt_delete(other) || kt_delete(pass) || kt_delete(tree), 0);
 }
 
 static void try_callbacks(bool by_itself)
@@ -115,6 +135,39 @@ static void try_callbacks(bool by_itself)
         TRY(kt_remove_wait(&tree, key, &lock), 1);
         end();
     }
+    begin();
+    TRY(kt_gate(&hold, 1, &pass), 0);
+    TRY(ends(passes, by_itself), true);
+    TRY(kt_remove_gated_wait(&tree, &hold, key, &lock), 1);
+    end();
+}
+
+static void is_unlocked(void)
+{
+    TRY(pthread_mutex_trylock(&lock.mutex), 0);
+    pthread_mutex_unlock(&lock.mutex);
+}
+
+/* A thread that shuts a gate is cancelled while a pass is inside, and then one that waits for a call besides. */
+static void try_gate(void *(*what)(void *), bool is_marked)
+{
+    begin();
+    TRY(kt_gate(&hold, 1, &pass), 0);
+    TRY(kt_enter(&other), 0);
+    TRY(kt_pass_enter(&pass), 0);
+    TRY(ends(what, false), true);
+    is_unlocked();
+    TRY(kt_enter(&file), is_marked ? -ENODEV : 0);
+    TRY(kt_pass_leave_wake(&pass, &lock), 0);
+    TRY(kt_pass_enter_wake(&pass, &lock), -ENODEV); /* the gate stays shut, and has its call */
+    TRY(kt_clear(&hold), -EBUSY);
+    TRY(ends(removes_gated, false), true);
+    is_unlocked();
+    TRY(kt_enter(&hold), -ENODEV); /* it was closed, and is a hold again */
+    TRY(kt_leave_wake(&other, &lock), 0);
+    (void)kt_clear_wake(&file, &lock);
+    TRY(kt_remove_gated_wait(&tree, &hold, key, &lock), 1);
+    end();
 }
 
 static void try_waits(void)
@@ -122,11 +175,9 @@ static void try_waits(void)
     begin();
     TRY(kt_enter(&other), 0);
     TRY(ends(hides, false), true);
-    TRY(pthread_mutex_trylock(&lock.mutex), 0);
-    pthread_mutex_unlock(&lock.mutex);
+    is_unlocked();
     TRY(ends(removes, false), true);
-    TRY(pthread_mutex_trylock(&lock.mutex), 0);
-    pthread_mutex_unlock(&lock.mutex);
+    is_unlocked();
     TRY(kt_leave_wake(&other, &lock), 0);
     TRY(kt_remove_wait(&tree, key, &lock), 1);
     end();
@@ -155,5 +206,8 @@ int main(void)
         try_live(by_itself);
     }
     try_waits();
+    try_gate(shuts, false);
+    try_gate(shuts_long, false);
+    try_gate(removes_gated, true);
     return tried();
 }

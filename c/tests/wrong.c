@@ -260,6 +260,78 @@ static void freed_early(void)
     free(device);
 }
 
+/* ---- what callbacks by passes change ---- */
+
+static struct kt_handle pass;
+
+/* A gate of a node, in a new handle; and its first pass. */
+static struct kt_handle gate_of(struct kt_key key)
+{
+    struct kt_handle gate = hold_of(key);
+    must(kt_new(&pass.at));
+    must(kt_gate(&gate, 2, &pass));
+    return gate;
+}
+
+static void *passes(void *data)
+{
+    for (int i = 0; i < TURNS && kt_pass_run(&pass, &lock, change, data) != -ENODEV; i++)
+        ;
+    return data;
+}
+static void *enters_by_pass(void *data)
+{
+    for (int i = 0; i < TURNS; i++)
+        if (!kt_pass_enter(&pass))
+            kt_pass_leave(&pass);
+    return data;
+}
+static void one_pass(void) { (void)gate_of(dir_file), two_threads(enters_by_pass, enters_by_pass); }
+static void passed(void) { (void)gate_of(dir_file), kt_delete(pass), must(kt_pass_enter(&pass)); }
+
+/* It is freed once the gate is shut, or its node is removed, or else too early. */
+static void shuts(bool is_removed, bool is_early)
+{
+    pthread_t thread;
+    int *device = (int *)calloc(1, sizeof *device);
+    struct kt_handle gate = gate_of(dir_file);
+    pthread_create(&thread, NULL, passes, device);
+    usleep(1000);
+    if (!is_early)
+        must(is_removed ? kt_remove_gated_wait(&tree, &gate, dir_file, &lock) : kt_shut_wait(&gate, &lock));
+    *device = -1;
+    pthread_join(thread, NULL);
+    free(device);
+    if (is_early)
+        must(kt_shut_wait(&gate, &lock));
+    kt_delete(gate);
+    kt_delete(pass);
+}
+static void right_shutting(void) { shuts(false, false); }
+static void right_gated_removal(void) { shuts(true, false); }
+static void shut_early(void) { shuts(false, true); }
+
+/* The shutting of one gate orders nothing about callbacks by passes of another. */
+static void *passes_once(void *data)
+{
+    if (!kt_pass_enter(&pass)) {
+        change(&pass, &plain);
+        kt_pass_leave(&pass);
+    }
+    return data;
+}
+static void *shuts_another(void *data)
+{
+    struct kt_handle own = hold_of(other), its;
+    must(kt_new(&its.at));
+    must(kt_gate(&own, 1, &its));
+    usleep(20000); /* the other thread has left */
+    must(kt_shut(&own));
+    change(&own, &plain);
+    return data;
+}
+static void two_gates(void) { (void)gate_of(dir_file), two_threads(passes_once, shuts_another); }
+
 /* What is changed while a file is hidden, and while a node is not activated yet. */
 static void right_hiding(void)
 {
@@ -412,6 +484,8 @@ static const struct use {
     {"right_removal_moved", right_removal_moved}, {"right_second_hold", right_second_hold},
     {"right_hiding", right_hiding},
     {"right_activation", right_activation}, {"right_handles", right_handles},
+    {"one_pass", one_pass}, {"passed", passed}, {"right_shutting", right_shutting},
+    {"right_gated_removal", right_gated_removal}, {"shut_early", shut_early}, {"two_gates", two_gates},
 };
 
 int main(int count, char **words)

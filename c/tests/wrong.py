@@ -34,7 +34,7 @@ OTHERS = ("other_key", "other_key_back", "other_parent", "other_target", "other_
 REPORTED = {
     "address": {
         **dict.fromkeys(
-            ("entered", "left", "cleared", "deleted", "walked", "held", "copied", "doubled"), FREED
+            ("entered", "left", "cleared", "deleted", "walked", "held", "copied", "doubled", "passed"), FREED
         ),
         "deleted_inside": OF_A_CALL,
         **dict.fromkeys(("long_path", "long_name", "long_new_name", "long_shown"), "heap-buffer-overflow"),
@@ -43,7 +43,8 @@ REPORTED = {
     },
     "thread": {
         **dict.fromkeys(("one_hold", "one_file", "no_lock", "half_locked", "one_node", "two_nodes", "freed_early"), RACE),
-        **dict.fromkeys(("entered", "left", "cleared", "walked", "copied", "doubled"), USED_FREED),
+        **dict.fromkeys(("one_pass", "two_gates", "shut_early"), RACE),
+        **dict.fromkeys(("entered", "left", "cleared", "walked", "copied", "doubled", "passed"), USED_FREED),
         **dict.fromkeys(OTHERS, OTHER),
     },
 }
@@ -56,6 +57,8 @@ SILENT = [
     "right_second_hold",
     "right_hiding",
     "right_activation",
+    "right_shutting",
+    "right_gated_removal",
     "right_trees",
     "right_handles",
 ]
