@@ -236,6 +236,39 @@ void gate_that_goes()
     expect("a removal without it", tree.remove_wait(file));
 }
 
+/* A removal that sleeps is woken by the end of a visit, and by the destructor of a gate. */
+template <class Remove, class End> void removal_that_sleeps(const char *what, Remove &&remove, End &&end)
+{
+    kernfs::tree tree(8, 8);
+    auto edit = tree.edit();
+    auto file = edit.create_file(edit.root(), "hot", 0444, 0);
+    auto gate = std::make_unique<kernfs::gate>(edit.hold(file), 2);
+    edit.unlock();
+    auto pass = gate->pass(0);
+    std::atomic<bool> is_removed{false};
+    auto visit = pass.enter();
+    std::thread remover([&] { is_removed = remove(tree, *gate, file); });
+    while (!tree.edit().stat(file).doomed) // once it is, the remover sleeps
+        std::this_thread::yield();
+    end(gate, visit);
+    remover.join();
+    expect(what, is_removed);
+}
+
+void removals_that_sleep()
+{
+    removal_that_sleeps(
+        "a removal until the end of a visit",
+        [](auto &tree, auto &gate, auto file) { return tree.remove_gated_wait(gate, file); },
+        [](auto &, auto &visit) { visit.leave(); });
+    removal_that_sleeps(
+        "a removal until the end of a gate", [](auto &tree, auto &, auto file) { return tree.remove_wait(file); },
+        [](auto &gate, auto &visit) {
+            visit.leave();
+            gate.reset();
+        });
+}
+
 } // namespace
 
 int main()
@@ -249,6 +282,7 @@ int main()
     gates_and_passes();
     visits_that_end();
     gate_that_goes();
+    removals_that_sleep();
     std::cout << passed << " passed, " << failed << " failed\n";
     return failed != 0;
 }
