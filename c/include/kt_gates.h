@@ -3,15 +3,16 @@
  * this. It is C over the calls of kernfs_tree.h: tested, not proved. What kt_wait.h says of the lock and of fork() holds
  * here too.
  *
- * One thread at a time uses a gate, and so it does for the whole of kt_shut_wait() and kt_remove_gated_wait(): until one
- * of them returns, no other thread may use the gate's handle, or clear or free it. Other threads that remove the node
+ * One thread at a time uses a gate. This holds for the whole of kt_shut_wait() and kt_remove_gated_wait(): until such a
+ * call has returned, no other thread may use the gate's handle, or clear or free it. Other threads that remove the node
  * call kt_remove_wait(), which does not use the gate. Each thread that goes inside has its own pass.
  *
  * Threads that end: if a thread is cancelled in a callback of kt_pass_run() or ends there by pthread_exit(), or if a C++
- * exception leaves the callback, the pass is left. Between kt_pass_enter_wake() and kt_pass_leave_wake() nobody does
- * so: a pass that is never left keeps its gate, and each removal of its node, waiting for ever. If a thread is cancelled
- * while it waits here, the gate stays shut and keeps its call of the node. Then any thread calls kt_shut_wait() or
- * kt_remove_gated_wait() again, which ends this; kt_remove_wait() of the node waits until one of them does. */
+ * exception leaves the callback, the pass is left. Between kt_pass_enter_wake() and kt_pass_leave_wake() nothing leaves
+ * it: a pass that stays inside keeps its gate from closing, and each removal of its node waiting, for ever. If a thread
+ * is cancelled while it waits here, the lock is unlocked, and the gate stays shut and keeps its call of the node. Then
+ * another thread calls kt_shut_wait() or kt_remove_gated_wait() again, which ends what was begun. kt_remove_wait() of
+ * the node waits until one does. */
 #include "kernfs_tree.h"
 #ifndef KT_GATES_H
 #define KT_GATES_H

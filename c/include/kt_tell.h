@@ -19,7 +19,7 @@ static inline const char *kt_strerror(int64_t number)
     case -EBADF:
         return "no descriptor of a watch here";
     case -EBUSY:
-        return "in use: a file is being hidden, or others came between";
+        return "in use: a file is being hidden, a gate is open, a pass is inside, or others came between";
     case -EDEADLK:
         return "it would wait for its own thread, or callbacks wait for each other";
     case -EEXIST:
@@ -31,11 +31,11 @@ static inline const char *kt_strerror(int64_t number)
     case -EISDIR:
         return "it is a directory";
     case -EMFILE:
-        return "the node has as many holds as there may be";
+        return "the node has as many holds, or the gate has had as many passes, as there may be";
     case -ENAMETOOLONG:
         return "a name has more than 255 bytes";
     case -ENODEV:
-        return "the node is not live: not activated, hidden, or being removed";
+        return "the node is not live (not activated, hidden, or being removed), or the gate is shut";
     case -ENOENT:
         return "no such node, or it is being removed";
     case -ENOMEM:
