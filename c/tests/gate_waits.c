@@ -311,6 +311,7 @@ static void try_hiding(void)
     TRY(kt_unhide(&tree, file), -EAGAIN);
     TRY(kt_shut_wait(&gate, &lock), 0);
     TRY(result_of(&it), 0);
+    TRY(kt_unhide(&tree, file), 0);
     end();
 }
 
