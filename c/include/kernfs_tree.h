@@ -417,9 +417,9 @@ KT_STEP(1) int32_t kt_restore(struct kt_handle *call);
 /* Makes a gate of a hold's node, for an object that many threads call (percpu_ref_init): it enters by the hold as
  * kt_enter() does, and the gate keeps that call. `hold` is the gate then. `lanes`, 1 to KT_LANES_MAX: how many threads
  * can call without a shared cache line; each lane takes 64 bytes. `pass`, which has nothing behind it, gets the first
- * pass, by lane 0. While the gate is open, a removal or a hiding of the node returns -EAGAIN. 0, and in this order:
- * -EINVAL (these lanes, something is behind `pass`, or there is no hold: a call and an open file are none), -ENODEV as
- * for kt_enter(), -ENOMEM. */
+ * pass, by lane 0. Until kt_shut() has returned 0 or 1, a removal or a hiding of the node returns -EAGAIN; until it is
+ * called, passes enter even so. 0, and in this order: -EINVAL (these lanes, something is behind `pass`, or there is no
+ * hold: a call and an open file are none), -ENODEV as for kt_enter(), -ENOMEM. */
 KT_CALL(1, 3) int32_t kt_gate(struct kt_handle *hold, uint32_t lanes, struct kt_handle *pass);
 
 /* Another pass of a pass's gate, behind a handle with nothing behind it, for another thread: by the lane of this

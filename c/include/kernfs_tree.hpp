@@ -310,8 +310,12 @@ public:
     }
     ~gate()
     {
-        if (hold_.own_ && ended(kt_shut(hold_.own_.get())) == -EAGAIN)
-            (void)!kt_shut_wait(hold_.own_.get(), hold_.lock_->unowned());
+        int before = 0;
+        if (!hold_.own_ || ended(kt_shut(hold_.own_.get())) != -EAGAIN)
+            return;
+        pthread_setcancelstate(PTHREAD_CANCEL_DISABLE, &before); /* nothing may leave a destructor early */
+        (void)!kt_shut_wait(hold_.own_.get(), hold_.lock_->unowned());
+        pthread_setcancelstate(before, nullptr);
     }
     /* A pass by the lane of this number, modulo the number of lanes. */
     kernfs::pass pass(std::uint32_t lane) { return first_.another(lane); }

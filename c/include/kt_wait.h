@@ -4,8 +4,8 @@
  *
  * To call kernfs_tree.h on a tree, take the lock with pthread_mutex_lock(&lock.mutex). Of the calls here, a thread that
  * has the lock may call only kt_remove_claimed(). Nothing checks this: kt_remove_wait() and the like would wait for
- * ever, and so would the others, also kt_run(), kt_pass_run(), kt_read() and kt_poll(), once their node is gone. (What
- * stands in parentheses below is for the calls here, not for programs.)
+ * ever, and so would the others, also kt_run(), kt_pass_run(), kt_read() and kt_poll(), once their node is gone. (If a
+ * function's comment is in parentheses, as this one, the function is for the calls here and not for programs.)
  *
  * Threads that end: a thread that is cancelled (pthread_cancel()) while it waits here has unlocked the lock. What it
  * began stays begun: a node that was to be removed is marked, and another kt_remove_wait() ends it (kt_gates.h says what
@@ -259,7 +259,7 @@ static inline void kt_end_wake(struct kt_handle *call, struct kt_lock *lock)
     }
 }
 
-/* What ends a call if its callback does not return. */
+/* (What ends a call if its callback does not return.) */
 struct kt_ending {
     struct kt_handle *call;
     struct kt_lock *lock;
@@ -306,7 +306,7 @@ typedef int64_t kt_show(struct kt_handle *file, void *data, char *page);
 /* Takes 1 to 4,096 bytes. Returns the number of bytes that it took, or a negative errno. */
 typedef int64_t kt_store(struct kt_handle *file, void *data, const char *bytes, size_t length);
 
-/* Runs the show of a file that was entered for it, and keeps its text. 0, or the error of show. */
+/* (Runs the show of a file that was entered for it, and keeps its text. 0, or the error of show.) */
 static inline int64_t kt_show_into(struct kt_handle *file, struct kt_lock *lock, kt_show *show, void *data)
 {
     char page[KT_PAGE_SIZE];
