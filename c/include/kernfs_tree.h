@@ -56,9 +56,10 @@
  *   activated, or out of the tree; the hold was let in while its node was live; the call was left, broken or restored;
  *   the event number was raised.
  * - kt_gate() makes a gate only if the hold was let in while its node was live. kt_pass_enter() returns 0 only if a
- *   look found the gate open after the pass was counted, and -ENODEV only if it found the gate not open. kt_shut()
+ *   look found the gate open after the pass was counted, and -ENODEV only if such a look found it not open. kt_shut()
  *   returns 0 or 1 only if the gate was shut, each lane was seen empty after that, and the gate's call was left. (No
- *   clause says that the call was left last: a gate gives its call up only once it is closed, as its types have it.)
+ *   clause says that the call was left last: a gate gives its call up only once it is closed, as its types have it.) It
+ *   returns -EAGAIN only if its own look found somebody in a lane.
  * - kt_pass_leave() returns 1 exactly if a look after the pass was left found the gate shut.
  * - kt_leave() and kt_break() return 1 exactly if a removal or a hiding may be waiting for that step. kt_clear() and
  *   kt_delete() end a call, and then return 1 for the same reason. They also return 1 exactly if the hold that they
