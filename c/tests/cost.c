@@ -1,9 +1,9 @@
 /* SPDX-License-Identifier: MIT OR Apache-2.0 */
-/* What kt_enter() and kt_leave() cost beside two additions on an atomic word, with one thread and with four. Each of the
- * four has its own node, and their handles lie side by side in an array. With an argument: status 1 if either takes more
- * than that many times as long. Processor time counts, and the best of 15 rounds: so other work on the machine does not.
- * With fewer than four processors the four threads are left out, and the program says so. It also prints what
- * kt_pass_enter() and kt_pass_leave() cost, by passes of one node. */
+/* What kt_enter() and kt_leave(), and kt_pass_enter() and kt_pass_leave(), cost beside two additions on an atomic word,
+ * with one thread and with four. Each of the four uses another node by its hold, and one gate by its pass. Their
+ * handles lie side by side in arrays. With an argument: status 1 if any of these takes more than that many times as
+ * long. Processor time counts, and the best of 15 rounds: so other work on the machine does not. With fewer than four
+ * processors the four threads are left out, and the program says so. */
 #define _GNU_SOURCE
 #include <kernfs_tree.h>
 #include <pthread.h>
@@ -103,7 +103,7 @@ static double best(int count, void (*what)(int number))
     return least;
 }
 
-/* Prints the figures. Returns how many times as long an enter and a leave by a hold take. */
+/* Prints the figures. Returns how many times as long an enter and a leave take, by a hold or by a pass. */
 static double compare(int count)
 {
     double ours = best(count, enter_and_leave), passing = best(count, pass_and_leave), theirs = best(count, add);
@@ -111,7 +111,7 @@ static double compare(int count)
     printf("%d thread%s: enter and leave %.1f ns, two additions %.1f ns, %.2f times\n", count, more, ours, theirs,
            ours / theirs);
     printf("%d thread%s: enter and leave by a pass %.1f ns, %.2f times\n", count, more, passing, passing / theirs);
-    return ours / theirs;
+    return (ours > passing ? ours : passing) / theirs;
 }
 
 /* A gate of the last node, and a pass of it for each thread. */
