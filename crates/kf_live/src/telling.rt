@@ -11,6 +11,7 @@ ghost use Rattle.kf_live.specs.Told.{GrewSound, IsOneMore};
 
 use kf_core::Key;
 use kf_looks::{Found, LookupTable, Section, ShortName, Writer};
+use kf_table::is_live;
 use kf_tree::State;
 use std::hint::spin_loop;
 
@@ -28,21 +29,13 @@ pub(crate) fn place_of(state: &State, key: Key) -> Option<Spot>
         × StandsAt state.now.tree spot.dir (bytes_in spot.name) r × (spot.child ≡ live_found r)) }
     ensures out { IfNone result (IsOut state.now.tree key) }
 {
-    let Ok(Some(dir)) = state.parent_of(key) else {
-        return None;
-    };
-    let Ok(bytes) = state.name_of(key) else {
-        return None;
-    };
-    let name = ShortName::of(bytes)?;
-    let Ok(stat) = state.stat(key) else {
-        return None;
-    };
-    let live = stat.activated && !stat.doomed && !stat.hidden;
-    let child = if live {
+    let entry = state.record(key)?;
+    let dir = entry.parent?;
+    let name = ShortName::of(entry.name.bytes())?;
+    let child = if is_live(entry) {
         Some(Found {
             key,
-            node: stat.node,
+            node: entry.node,
         })
     } else {
         None
@@ -54,9 +47,9 @@ pub(crate) fn place_of(state: &State, key: Key) -> Option<Spot>
 fn is_doomed(state: &State, key: Key) -> bool
     ensures value { result ≡ doomed_in state.now.tree key }
 {
-    match state.stat(key) {
-        Ok(stat) => stat.doomed,
-        Err(_) => true,
+    match state.record(key) {
+        Some(entry) => entry.marks.doomed,
+        None => true,
     }
 }
 

@@ -1,6 +1,6 @@
 -- The last turn of a removal under the lock: the first of its nodes are unlinked, and its last hold learns of
 -- that.
-use Rattle.std.proofs.Common.{◌≡◌, zero, suc, ◌<◌, inl, inr, List, [], ◌∷◌, ◌++◌, length, drop, get_or, refl, sym, ap, ◌∙◌, subst, arith}
+use Rattle.std.proofs.Common.{◌≡◌, ℕ, zero, suc, ◌+◌, ◌<◌, inl, inr, List, [], ◌∷◌, ◌++◌, length, drop, get_or, slice_set, refl, sym, ap, ◌∙◌, subst, arith}
 use Rattle.std.proofs.lemmas.List.{append_assoc, length-append, same_from_push}
 use mathlib.Core.List.{IsPrefix}
 use Rattle.kf_core.specs.declared.command.Command.TheVariants.{Unlink}
@@ -31,6 +31,13 @@ last_of table items front last e a = go front (subst (AreOf table) e a)
     go : (front : List Handle) → AreOf table (front ++ last ∷ []) → last.table ≡ table
     go [] h = h 0 last (omega arith)
     go (x ∷ xs) h = go xs (λ i d l. h (suc i) d (omega (arith, l)))
+
+-- a list of which only the last item is set to another
+pub last_set : (i : ℕ) (xs : List Handle) (last new : Handle) → i + 1 ≡ length xs → last ≡ get_or xs i last → (front : List Handle) × (xs ≡ front ++ last ∷ []) × (slice_set xs i new ≡ front ++ new ∷ [])
+last_set i [] last new h is = absurd (omega (arith, h))
+last_set zero (x ∷ []) last new h is = ([], ap (λ y. y ∷ []) (sym is), refl)
+last_set zero (x ∷ y ∷ xs) last new h is = absurd (omega (arith, h))
+last_set (suc i) (x ∷ xs) last new h is = (let r = last_set i xs last new (omega (arith, h)) is in (x ∷ r.0, ap (λ ys. x ∷ ys) r.1, ap (λ ys. x ∷ ys) r.2))
 
 -- a list of which the last has met has the nodes that it had
 pub met_owners : (found : List Note) (seen : Seen) (before after : List Handle) → HasMet found seen before after → owners_of after ≡ owners_of before

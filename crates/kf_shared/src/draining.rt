@@ -80,9 +80,8 @@ impl<N: Naming> Locked<N> {
         ensures met { HasMet (history self.old) self.new.master.seen holds.old.items holds.new.items }
         ensures len { deque_len holds.new ≡ deque_len holds.old }
     {
-        if let Some(mut last) = holds.pop_back() {
-            self.master.meet(&mut last);
-            holds.push_back_reserved(last);
+        if let Some(last) = holds.back_mut() {
+            self.master.meet(last);
         }
     }
 

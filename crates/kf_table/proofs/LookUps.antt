@@ -2,7 +2,7 @@
 use Rattle.std.proofs.Common.{◌≡◌, ◌⊎◌, inl, inr, ℕ, suc, ◌+◌, ◌<◌, ◌≤◌, refl, ap, arith, sym, ◌∙◌, subst, Bool, true, false, cond, List, [], ◌∷◌, length, get_or, Bor}
 use Rattle.std.specs.Prelude.{Option, None, Some, IfSome, IfNone, slice_get, count_by, fold, is_some, not, ◌&&◌, IsTrue, ◌↔◌, ◌==◌}
 use Rattle.std.specs.List.{find as first, list_any}
-use Rattle.std.specs.Option.{option_and_then, option_copied}
+use Rattle.std.specs.Option.{option_and_then, option_copied, option_map_or}
 use Rattle.std.specs.Str.{bytes_eq}
 use Rattle.std.specs.declared.cmp.Ordering.{Ordering}
 use Rattle.std.specs.declared.cmp.Ordering.TheVariants.{Less, Equal, Greater}
@@ -132,6 +132,13 @@ module _ (t : Tree) (root : Key) (lawful : Lawful t root) where
         | true ↦ λ e. absurd (no_orphan dir gone r (ap (slice_get t) (lawful.in_place i r h) ∙ h) (key_is dir r.parent e))
         | false ↦ λ e. refl
       ] refl
+
+  -- what is no directory has no children
+  pub none_below : (key : Key) → option_map_or (λ (r : Record). is_dir r.node) (record_at t key) false ≡ false → AreNext t key None []
+  unfolding AreNext
+  none_below key not_dir = λ c i p.
+      (let o = lawful.in_directory c key i p in
+      sym (ap (λ r. option_map_or (λ (r : Record). is_dir r.node) r false) o.known ∙ ap is_dir o.is_dir) ∙ not_dir)
 
   pub has_child_tells : (dir : Key) (all : List (List ℕ × Key)) (empty : Bool) → IsTrue empty ↔ (all ≡ []) → AreNext t dir None all → not empty ≡ has_child t dir
   unfolding AreNext

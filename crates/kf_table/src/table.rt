@@ -223,6 +223,21 @@ impl Table {
         self.directories.above(dir.slot, bound)
     }
 
+    /// The names and keys of all children of a node, in byte order of names. A node that is no directory has
+    /// none, and no index is asked for them.
+    ///
+    /// Condition: the table is lawful.
+    #[inline]
+    pub fn children(&self, dir: Key) -> Listed<'_>
+        requires lawful { (root : Key) × Lawful self.now root }
+        ensures listed { AreNext self.now dir None result }
+    {
+        if !is_directory_record(self.record(dir)) {
+            return Listed::none();
+        }
+        self.children_above(dir, None)
+    }
+
     /// Whether a directory has a linked child.
     ///
     /// Condition: the table is lawful.
@@ -230,7 +245,7 @@ impl Table {
         requires lawful { (root : Key) × Lawful self.now root }
         ensures known { result ≡ has_child self.now dir }
     {
-        !self.children_above(dir, None).is_empty()
+        !self.children(dir).is_empty()
     }
 
     /// How many child directories a directory has.

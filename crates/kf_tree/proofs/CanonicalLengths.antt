@@ -177,12 +177,26 @@ module _ (t : Tree) (root : Key) (l : Lawful t root) (keys : List Key) (order : 
       let x = creates in let y = dooms in let z = hides in
       omega (arith, a, b, c, x, y, z))
 
+  none_long : {X : Type 0} (xs : List X) → length xs ≡ 0 → xs ≡ []
+  none_long [] h = refl
+  none_long (x ∷ xs) h = absurd (let no : length (x ∷ xs) ≡ 0 = h in omega (arith, no))
+
+  -- a tree that owes nothing has nothing to doom or hide
+  pub none_owed : owed_count t ≡ 0 → (collected (doom_of t) keys ≡ []) × (collected (hide_of t) keys ≡ [])
+  none_owed none = (
+    none_long _ (let d = dooms in omega (arith, d, none)),
+    none_long _ (let h = hides in omega (arith, h, none)),
+  )
+
+-- the root is linked
+pub root_counted : (t : Tree) (root : Key) → Lawful t root → 1 ≤ linked_count t
+root_counted t root l = (let c = count_some t root.slot (root_record root) l.rooted in omega (arith, c))
+
 -- ---- of a state
 
 module _ (s : TreeLog) (capacity owed linked : ℕ) (sound : IsSound s capacity owed) (counted : linked ≡ linked_count s.tree) where
-  -- the root is linked
   pub one_at_least : 1 ≤ linked
-  one_at_least = (let c = count_some s.tree s.root.slot (root_record s.root) sound.kept.lawful.rooted in omega (arith, c, counted))
+  one_at_least = (let c = root_counted s.tree s.root sound.kept.lawful in omega (arith, c, counted))
 
   pub all_fit : linked + owed ≤ most_slots + most_slots + most_slots
   all_fit =

@@ -29,3 +29,16 @@ all_collected t keys a b c none first second third order ka kb kc empty x y z = 
       ∙ ap (λ ks. collected (create_of t) keys ++ (collected (doom_of t) ks ++ collected (hide_of t) c)) kb
       ∙ ap (λ ks. collected (create_of t) keys ++ (collected (doom_of t) keys ++ collected (hide_of t) ks)) kc,
 )
+
+-- if there is nothing to doom or hide, the creations are all
+pub only_created : (t : Tree) (keys a : List Key) (none first : List Command) → IsPreOrder t keys → a ≡ keys → none ≡ [] → first ≡ none ++ collected (create_of t) a →
+    (collected (doom_of t) keys ≡ []) × (collected (hide_of t) keys ≡ []) → IsCanonical t first
+only_created t keys a none first order ka empty x nothing = (
+  keys,
+  order,
+  x ∙ ap (λ cs. cs ++ collected (create_of t) a) empty
+      ∙ ap (λ ks. collected (create_of t) ks) ka
+      ∙ sym (append-nil (collected (create_of t) keys))
+      ∙ ap (λ cs. collected (create_of t) keys ++ cs) (sym nothing.1)
+      ∙ ap (λ cs. collected (create_of t) keys ++ (cs ++ collected (hide_of t) keys)) (sym nothing.0),
+)

@@ -1,6 +1,6 @@
 -- Keys of which none is twice in a list, and how many of them a tree can have.
 use Rattle.std.proofs.Common.{◌≡◌, inl, inr, ℕ, suc, ◌≤◌, refl, ap, arith, ◌∙◌, subst, List, [], ◌∷◌, length, slice_set}
-use Rattle.std.specs.Prelude.{Option, None, Some, is_some, IsTrue, Contains, AllPairs, slice_get, count_by}
+use Rattle.std.specs.Prelude.{None, Some, is_some, IsTrue, Contains, AllPairs, slice_get, count_by}
 use Rattle.std.proofs.lemmas.Option.{none-some}
 use Rattle.kf_core.specs.declared.key.Key.{Key}
 use Rattle.kf_core.specs.declared.records.Record.{Record}

@@ -3,6 +3,7 @@
 ghost use Rattle.std.specs.Prelude.{◌≡◌, ◌≤◌, ◌+◌, ◌++◌, length, vec_capacity, IfOk, IfErr, OnOk};
 ghost use Rattle.kf_core.specs.Lawful.{Lawful};
 ghost use Rattle.kf_tree.specs.Canonical.{IsPreOrder, IsCanonical, collected, create_of, doom_of, hide_of, is_doomed_top};
+ghost use Rattle.kf_tree.specs.Subtrees.{owed_count};
 
 use crate::growth::fit_room;
 use crate::marks::is_hidden;
@@ -16,7 +17,7 @@ fn pre_order(alloc: Global, table: &Table, root: Key) -> Result<Vec<Key>, AllocE
     requires lawful { Lawful table.now root }
     ensures ordered { IfOk result (λ keys. IsPreOrder table.now keys.items) }
 {
-    let mut keys = Vec::new(alloc);
+    let mut keys = Vec::with_capacity(alloc, table.linked())?;
     let mut current = root;
     let mut later = later_siblings(table, root);
     'visit: while let Some((next, beside)) = next_in_pre_order(table, current, later) {
@@ -109,19 +110,30 @@ fn push_hides(table: &Table, keys: &[Key], commands: &mut Vec<Command>) -> Resul
     Ok(())
 }
 
-fn write_commands(alloc: Global, table: &Table, root: Key) -> Result<Vec<Command>, AllocError>
+/// The canonical list, of a tree that owes this many later commands. If it owes none, no record is doomed or
+/// hidden, and only creations are looked for.
+fn write_commands(
+    alloc: Global,
+    table: &Table,
+    root: Key,
+    later: usize,
+) -> Result<Vec<Command>, AllocError>
     requires lawful { Lawful table.now root }
+    requires counted { later ≡ owed_count table.now }
     ensures canonical { IfOk result (λ commands. IsCanonical table.now commands.items) }
 {
     let keys = pre_order(alloc, table, root)?;
-    let mut commands = Vec::new(alloc);
+    let mut commands = Vec::with_capacity(alloc, table.linked() - 1)?;
     push_creates(table, &keys, &mut commands)?;
+    if later == 0 {
+        return Ok(commands);
+    }
     push_dooms(table, &keys, &mut commands)?;
     push_hides(table, &keys, &mut commands)?;
     Ok(commands)
 }
 
-/// The canonical list of commands of a tree, with room for just this many later ones.
+/// The canonical list of commands of a tree, with room for just the later ones that it owes.
 pub(crate) fn canonical_commands(
     alloc: Global,
     table: &Table,
@@ -129,11 +141,12 @@ pub(crate) fn canonical_commands(
     later: usize,
 ) -> Result<Vec<Command>, Refusal>
     requires lawful { Lawful table.now root }
+    requires counted { later ≡ owed_count table.now }
     ensures canonical { IfOk result (λ commands. IsCanonical table.now commands.items) }
     ensures room { IfOk result (λ commands. length commands.items + later ≤ vec_capacity commands) }
     ensures refused { IfErr result (λ refusal. refusal ≡ Refusal.NoMemory) }
 {
-    let Ok(mut commands) = write_commands(alloc, table, root) else {
+    let Ok(mut commands) = write_commands(alloc, table, root, later) else {
         return Err(Refusal::NoMemory);
     };
     fit_room(&mut commands, later)?;

@@ -47,7 +47,7 @@ pub(crate) fn first_below<'t>(table: &'t Table, top: Key, later: Listed<'t>) -> 
 {
     let mut current = top;
     let mut beside = later;
-    'down: while let Some(((_, child), rest)) = table.children_above(current, None).split_first() {
+    'down: while let Some(((_, child), rest)) = table.children(current).split_first() {
         current = child;
         beside = rest;
     }
@@ -140,7 +140,7 @@ pub(crate) fn next_in_pre_order<'t>(
     ensures later { IfSome result (λ next. AreLater table.now next.0 next.1) }
     ensures end { IfNone result (IsLastInPreOrder table.now key) }
 {
-    match table.children_above(key, None).split_first() {
+    match table.children(key).split_first() {
         Some(((_, child), rest)) => Some((child, rest)),
         None => next_of_leaf(table, key, later),
     }

@@ -29,7 +29,7 @@ use crate::listing::{Names, copy_names};
 use crate::paths::{walk, walk_parent};
 use crate::post_order::post_order;
 use crate::stat::{Stat, stat_of};
-use kf_core::{Command, Key, Node, Refusal};
+use kf_core::{Command, Key, Node, Record, Refusal};
 use kf_index::Name;
 
 impl State {
@@ -230,6 +230,14 @@ impl State {
     {
         check_list(&self.table, dir)?;
         Ok(Names::new(&self.table, dir, after, limit))
+    }
+
+    /// The record of a linked node, as it stands in the tree.
+    #[inline]
+    pub fn record(&self, key: Key) -> Option<&Record>
+        ensures known { option_copied result ≡ record_at self.now.tree key }
+    {
+        self.table.record(key)
     }
 
     /// What is reported of a linked node: its kind, its marks, its number of child directories, and its

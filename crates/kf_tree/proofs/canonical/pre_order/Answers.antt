@@ -4,7 +4,7 @@ use Rattle.kf_tree.proofs.canonical.pre_order.Goals as goal
 
 pub visit-init : goal.visit-init
 visit-init c = (
-  subst (IsAheadOf c.args.table.now c.args.root) (sym c.new-keys.ensures.items) (first_ahead c.args.table.now c.args.root c.requires.lawful),
+  subst (IsAheadOf c.args.table.now c.args.root) (sym c.in_ok-keys.ensures.items) (first_ahead c.args.table.now c.args.root c.requires.lawful),
   c.later_siblings-later.ensures.later,
 )
 

@@ -8,18 +8,18 @@ down-init c = (down_none c.args.table.now c.requires.lawful.0 c.requires.lawful.
 
 pub down-preserved : goal.down-preserved
 down-preserved c =
-    let listed = rw c.in-Some.ensures.split at c.children_above.ensures.listed in (
+    let listed = rw c.in-Some.ensures.split at c.children.ensures.listed in (
       down_more c.args.table.now c.requires.lawful.0 c.requires.lawful.1 c.args.top _ _ _ listed c.down.invariant.0,
       (λ other. later_listed c.args.table.now _ _ _ _ listed),
       (λ later. later_listed c.args.table.now _ _ _ _ listed),
     )
 
 pub down-smaller : goal.down-smaller
-down-smaller c = down_smaller c.args.table.now c.requires.lawful.0 c.requires.lawful.1 _ _ _ (rw c.in-Some.ensures.split at c.children_above.ensures.listed)
+down-smaller c = down_smaller c.args.table.now c.requires.lawful.0 c.requires.lawful.1 _ _ _ (rw c.in-Some.ensures.split at c.children.ensures.listed)
 
 pub returns : goal.returns
 returns c = record {
-  first = down_end c.args.table.now c.requires.lawful.0 c.requires.lawful.1 c.args.top _ (rw c.in_default.ensures.empty at c.children_above.ensures.listed) c.down.invariant.0;
+  first = down_end c.args.table.now c.requires.lawful.0 c.requires.lawful.1 c.args.top _ (rw c.in_default.ensures.empty at c.children.ensures.listed) c.down.invariant.0;
   below = c.down.invariant.1;
   later = c.down.invariant.2;
 }
