@@ -16,7 +16,7 @@ use kf_core::Key;
 
 impl LookupTable {
     /// A word behind the version, which is the one that the writer planned.
-    fn recall(&self, seat: &mut LookSeat, index: usize) -> u64
+    pub(crate) fn recall(&self, seat: &mut LookSeat, index: usize) -> u64
         requires table { seat.old.table_id ≡ self.now.table.shared.table_id }
         requires inside { index < words_for self.now.slots }
         requires writes { IsWriter seat.old.me.0 }

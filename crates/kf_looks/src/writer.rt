@@ -87,7 +87,9 @@ impl LookupTable {
         ensures filled { IsFilled (plan seat.old).draft (plan seat.new).draft at words.now 7 }
     {
         for k in 0..7 {
-            self.put(seat, at + k, words[k]);
+            if self.recall(seat, at + k) != words[k] {
+                self.put(seat, at + k, words[k]);
+            }
         }
     }
 
