@@ -24,7 +24,11 @@ pub(crate) fn gate<R: Abort>(rt: &R, alloc: Global, lanes: u64) -> (Closed, Pass
     }
 }
 
-pub(crate) fn another<R: Abort>(rt: &R, pass: &mut Pass, lane: u64) -> Pass {
+/// Another pass of the same gate, by this lane.
+pub(crate) fn another<R: Abort>(rt: &R, pass: &mut Pass, lane: u64) -> Pass
+    ensures same { pass.new.seat ≡ pass.old.seat }
+    ensures gate { result.seat.gate ≡ pass.old.seat.gate }
+{
     match pass.another(lane) {
         Ok(other) => other,
         Err(_) => panic!(rt; "no pass"),

@@ -1,7 +1,13 @@
-//! The tests of gates and of hot nodes, over the public calls of `kf_gates`, `kf_hot` and `kf_shared`:
-//! proved over these crates, and not with them.
+//! The tests of gates, of hot nodes and of their open files, over the public calls of `kf_gates`, `kf_hot`,
+//! `kf_shared` and `kf_files`: proved over these crates, and not with them.
 #![tactic(auto)]
 
+#[cfg(test)]
+mod file_tests;
+#[cfg(test)]
+mod file_threads;
+#[cfg(test)]
+mod files;
 #[cfg(test)]
 mod gates;
 #[cfg(test)]

@@ -1,5 +1,6 @@
 //! Hot nodes among threads: what each thread does.
-ghost use Rattle.std.specs.Prelude.{◌≡◌};
+ghost use Rattle.std.specs.Prelude.{◌≡◌, true};
+ghost use Rattle.kf_core.specs.Phases.{has_reference};
 ghost use Rattle.kf_core.specs.declared.caller.Phase.TheVariants as phase_of;
 
 use kf_core::{Key, Node, Refusal};
@@ -47,24 +48,34 @@ pub(crate) fn wait_for(count: &AtomicU64, wanted: u64) -> bool {
     false
 }
 
-fn add(count: &AtomicU64) {
+pub(crate) fn add(count: &AtomicU64) {
     count.fetch_add(1, Ordering::SeqCst);
 }
 
-fn add_if(wrong: bool, count: &AtomicU64) {
+pub(crate) fn add_if(wrong: bool, count: &AtomicU64) {
     if wrong {
         add(count);
     }
 }
 
-/// A live directory of this name below the root.
-pub(crate) fn create<N: Naming, R: Abort + Wait>(rt: &R, tree: &SharedTree<N>, name: &[u8]) -> Key {
+/// A live node of this name below the root.
+pub(crate) fn create_node<N: Naming, R: Abort + Wait>(
+    rt: &R,
+    tree: &SharedTree<N>,
+    name: &[u8],
+    node: Node,
+) -> Key {
     let mut editor = tree.edit(rt);
     let root = editor.state().root();
-    match editor.create(root, name, Node::Dir, true) {
+    match editor.create(root, name, node, true) {
         Ok(key) => key,
         Err(_) => panic!(rt; "not created"),
     }
+}
+
+/// A live directory of this name below the root.
+pub(crate) fn create<N: Naming, R: Abort + Wait>(rt: &R, tree: &SharedTree<N>, name: &[u8]) -> Key {
+    create_node(rt, tree, name, Node::Dir)
 }
 
 pub(crate) fn hold<N: Naming, R: Abort + Wait>(rt: &R, tree: &SharedTree<N>, key: Key) -> Hold
@@ -143,6 +154,20 @@ pub(crate) fn remove<N: Naming, R: Abort + Wait>(
     let keeper = opened(rt, tree, key, closed);
     add(&counts.opened);
     add_if(!wait_for(&counts.inside, callers), &counts.wrong);
+    remove_by_gate(rt, alloc, tree, key, keeper, counts)
+}
+
+/// Removes the node of an open gate by `remove_gated`. The closed gate comes back.
+pub(crate) fn remove_by_gate<N: Naming, R: Abort + Wait>(
+    rt: &R,
+    alloc: Global,
+    tree: &SharedTree<N>,
+    key: Key,
+    keeper: Keeper<Call>,
+    counts: &Counts,
+) -> Closed
+    requires inside { has_reference keeper.kept.phase ≡ true }
+{
     let hold = hold(rt, tree, key);
     let Ok(mut gates) = Vec::with_capacity(alloc, 1) else {
         hold.release();
@@ -180,7 +205,7 @@ pub(crate) fn release_once_doomed<N: Naming, R: Wait>(
     add(&counts.released);
 }
 
-fn is_doomed_soon<N: Naming, R: Wait>(rt: &R, tree: &SharedTree<N>, key: Key) -> bool {
+pub(crate) fn is_doomed_soon<N: Naming, R: Wait>(rt: &R, tree: &SharedTree<N>, key: Key) -> bool {
     for _ in 0..1_000_000_000u64 {
         match tree.read(rt).state().stat(key) {
             Ok(stat) => {

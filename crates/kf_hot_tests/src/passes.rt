@@ -11,7 +11,8 @@ use std::alloc::Global;
 use std::process::Abort;
 use std::sync::Wait;
 
-fn inside<R: Abort>(rt: &R, passes: &mut HotPasses, pass: HotPass) -> HotCall
+/// Goes in by this pass, which must be let in.
+pub(crate) fn inside<R: Abort>(rt: &R, passes: &mut HotPasses, pass: HotPass) -> HotCall
     ensures seat { result.call.seat ≡ pass.pass.seat }
     ensures running { result.call.phase ≡ phase_of.Running }
 {
@@ -21,7 +22,8 @@ fn inside<R: Abort>(rt: &R, passes: &mut HotPasses, pass: HotPass) -> HotCall
     }
 }
 
-fn refused<R: Abort>(rt: &R, passes: &mut HotPasses, pass: HotPass) -> HotPass
+/// Tries this pass, which must be refused, and returns it.
+pub(crate) fn refused<R: Abort>(rt: &R, passes: &mut HotPasses, pass: HotPass) -> HotPass
     ensures seat { result.pass.seat ≡ pass.pass.seat }
 {
     match passes.enter(pass) {

@@ -16,7 +16,8 @@ use std::sync::Wait;
 use std::sync::atomic::Ordering;
 use std::thread::{Threads, join};
 
-fn made<R: Abort>(rt: &R, alloc: Global) -> NewTree {
+/// A tree of 8 slots, each of which may have 16 holds.
+pub(crate) fn made<R: Abort>(rt: &R, alloc: Global) -> NewTree {
     let Some(limits) = Limits::new(8, 16) else {
         panic!(rt; "no such limits")
     };
