@@ -49,12 +49,13 @@ class Item:
 
 @dataclass
 class Impl:
-    """A block `impl Type` or `impl Trait for Type`, with the ghost members of the latter."""
+    """A block `impl Type` or `impl Trait for Type`, with the ghost members and the methods of the latter."""
     trait: str
     type: str
     head: str
     ghosts: list
     uses: dict
+    methods: list = field(default_factory=list)
 
 
 def end_of(text, at):
@@ -193,6 +194,8 @@ class File:
         elif not owner.trait:
             item.owner, item.head = owner.type, owner.head
             self.items.append(item)
+        else:
+            owner.methods.append(item)
 
     def function(self, head, doc, owner):
         name = re.compile(r"fn (\w+)").match(self.text, head.start("kind"))
