@@ -470,7 +470,9 @@ public:
     }
     [[nodiscard]] editor edit() { return editor(own_.get(), lock_); }
 
-    /* Removes a node and all below it, and waits until no callback runs there. True if this call took it out. */
+    /* Removes a node and all below it, and waits until no callback runs there. True if this call took it out. (If a
+     * callback calls remove_self_wait() meanwhile, that may return true too, or instead: editor::claim() says which
+     * thread frees.) */
     bool remove_wait(key of) { return must(kt_remove_wait(own_.get(), of, lock_->unowned())) == 1; }
     /* The same with a time limit. False if somebody is still inside: everything stays marked, and it is called again. */
     bool remove_wait_for(key of, std::chrono::milliseconds limit)

@@ -205,7 +205,8 @@ class Tree(_Owner):
 
     def remove_wait(self, key, seconds=None):
         """Removes a node and everything below it, and waits until no callback runs there; after `seconds` it raises
-        KtError with ETIMEDOUT."""
+        KtError with ETIMEDOUT. Returns 1 if this call took the node out, and 0 if it was out before. (If a callback
+        calls `remove_self` meanwhile, that may return True too, or instead: `claim` says which thread frees.)"""
         return self._wait("remove", key, seconds)
 
     def hide(self, key):

@@ -106,6 +106,8 @@ impl Tree {
     }
 
     /// Removes a node and all below it, and waits until no callback runs there. Returns whether this call took it out.
+    /// (If a callback calls [`Call::remove_self`](crate::Call::remove_self) meanwhile, that may return true too, or
+    /// instead: [`Editor::claim`](crate::Editor::claim) says which thread frees.)
     /// ENOENT: this tree never gave out the key; EINVAL: the root; EMFILE: a node has the maximum of holds; ENOMEM.
     pub fn remove(&self, key: Key) -> Result<bool> {
         Ok(self.wait(key, sys::kt_bind_remove, None)? == Some(1))
