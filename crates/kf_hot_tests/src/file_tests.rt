@@ -1,5 +1,5 @@
 //! Open files of a hot node, by one thread: they are used while the gate is open, and refused afterwards.
-ghost use Rattle.std.specs.Prelude.{◌≡◌, false, true};
+ghost use Rattle.std.specs.Prelude.{◌≡◌, true};
 ghost use Rattle.kf_core.specs.Phases.{has_reference};
 
 use crate::files::{FILE, GONE, TAG, Text, not_opened, opened_by, post_at, posts_of, reads, tell};
