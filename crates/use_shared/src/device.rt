@@ -5,7 +5,7 @@ ghost use Rattle.std.specs.Prelude.{◌≡◌};
 use anyhow::Context;
 use kf_core::{Key, Limits, Refusal};
 use kf_device::Bus;
-use kf_files::{WaitingFile, Want};
+use kf_files::{PageApart, WaitingFile, Want};
 use kf_notify::Posts;
 use kf_shared::{Naming, NewTree, SharedTree};
 use std::alloc::Global;
@@ -36,6 +36,7 @@ fn print_names<N: Naming, R: Wait + Print>(
 /// Writes `1` into a device's `delete`: its callback removes the device that it belongs to.
 fn delete<N: Naming, R: Wait>(
     rt: &R,
+    alloc: Global,
     posts: &mut Posts,
     tree: &SharedTree<N>,
     bus: &Bus<N>,
@@ -43,6 +44,7 @@ fn delete<N: Naming, R: Wait>(
 ) -> Result<usize, Refusal>
     requires { posts.old.slots ≡ 32 }
 {
+    let page = Box::new(alloc, PageApart::new())?;
     let mut editor = tree.edit(rt);
     let key: Key = editor.state().lookup(path)?;
     // there are event numbers for this many slots
@@ -59,15 +61,15 @@ fn delete<N: Naming, R: Wait>(
             return Err(refusal);
         }
     };
-    let mut file = match WaitingFile::<N>::open(hold, node, Want::WRITE, post) {
+    let mut file = match WaitingFile::<N, _>::open_on(hold, node, Want::WRITE, post, page) {
         Ok(file) => file,
-        Err((hold, _, refusal)) => {
+        Err((hold, _, _, refusal)) => {
             hold.release();
             return Err(refusal);
         }
     };
     let taken = file.write(rt, tree, bus, b"1");
-    let (hold, _) = file.close();
+    let (hold, _, _) = file.into_parts();
     hold.release();
     taken.ok().ok_or(Refusal::NoDevice)
 }
@@ -75,6 +77,7 @@ fn delete<N: Naming, R: Wait>(
 /// Plugs two devices, and has one go by its name and one by its file.
 fn use_bus<N: Naming, R: Wait + Print>(
     rt: &R,
+    alloc: Global,
     tree: &SharedTree<N>,
     bus: &Bus<N>,
     posts: &mut Posts,
@@ -87,7 +90,7 @@ fn use_bus<N: Naming, R: Wait + Print>(
     print_names(rt, tree, "/devices/fan0")?;
     bus.unplug(rt, tree, b"fan0")?;
     print_names(rt, tree, "/devices")?;
-    let taken = delete(rt, posts, tree, bus, b"/devices/fan1/delete")?;
+    let taken = delete(rt, alloc, posts, tree, bus, b"/devices/fan1/delete")?;
     println!(rt; "a store of {taken} byte deleted fan1")?;
     print_names(rt, tree, "/devices")
 }
@@ -98,7 +101,7 @@ fn run<N: Naming, R: Wait + Print>(rt: &R, alloc: Global, new: NewTree) -> anyho
     let tree = new.named::<N>();
     let bus = Bus::new(alloc)?;
     let mut posts = Posts::new(alloc, SLOTS)?;
-    use_bus(rt, &tree, &bus, &mut posts)
+    use_bus(rt, alloc, &tree, &bus, &mut posts)
 }
 
 /// Makes the tree, and a bus over it.

@@ -6,7 +6,7 @@ ghost use Rattle.std.specs.Prelude.{◌≡◌, Ok, decimal};
 use anyhow::Context;
 use itoa::Buffer;
 use kf_core::{Limits, Node, Refusal};
-use kf_files::{Fault, FileError, OpenFile, Ops, Page, Want};
+use kf_files::{Fault, FileError, OpenFile, Ops, Page, PageApart, Want};
 use kf_notify::{Post, Posts};
 use kf_shared::{Naming, NewTree, SharedTree};
 use kf_words::{Call, Seats};
@@ -17,6 +17,9 @@ use std::sync::Wait;
 
 /// What a store of no number returns (`EINVAL`).
 const NO_NUMBER: Fault = Fault { number: 22 };
+
+/// The file, open. Its page lies in a box, so that a move of the file copies none of the 4,096 bytes.
+type LimitFile = OpenFile<Seats, Box<PageApart>>;
 
 /// What the driver keeps: the number that its attribute shows.
 #[derive(Drop)]
@@ -51,9 +54,11 @@ impl Ops<Call> for FanDriver {
 /// The file `/limit`, opened.
 fn open<N: Naming, R: Wait>(
     rt: &R,
+    alloc: Global,
     tree: &SharedTree<N>,
     post: Post,
-) -> Result<OpenFile<Seats>, Refusal> {
+) -> Result<LimitFile, Refusal> {
+    let page = Box::new(alloc, PageApart::new())?;
     let mut editor = tree.edit(rt);
     let root = editor.state().root();
     let node = Node::File {
@@ -62,9 +67,9 @@ fn open<N: Naming, R: Wait>(
     };
     let key = editor.create(root, b"limit", node, true)?;
     let hold = editor.hold(key)?;
-    match OpenFile::open(&mut Seats, hold, node, Want::BOTH, post) {
+    match OpenFile::open_on(&mut Seats, hold, node, Want::BOTH, post, page) {
         Ok(file) => Ok(file),
-        Err((hold, _, refusal)) => {
+        Err((hold, _, _, refusal)) => {
             hold.release();
             Err(refusal)
         }
@@ -80,11 +85,7 @@ fn print_error<R: Print>(rt: &R, error: FileError) -> io::Result<()> {
 }
 
 /// Prints what a read of the file gives.
-fn read<R: Print>(
-    rt: &R,
-    file: &mut OpenFile<Seats>,
-    driver: &mut FanDriver,
-) -> anyhow::Result<()> {
+fn read<R: Print>(rt: &R, file: &mut LimitFile, driver: &mut FanDriver) -> anyhow::Result<()> {
     let mut out = [0u8; 16];
     match file.read(&mut Seats, driver, 0, &mut out) {
         Ok(count) => {
@@ -100,7 +101,7 @@ fn read<R: Print>(
 /// Writes a text, and prints what became of it.
 fn write<R: Print>(
     rt: &R,
-    file: &mut OpenFile<Seats>,
+    file: &mut LimitFile,
     driver: &mut FanDriver,
     text: &[u8],
 ) -> anyhow::Result<()> {
@@ -112,11 +113,7 @@ fn write<R: Print>(
 }
 
 /// Reads, writes and reads again.
-fn try_out<R: Print>(
-    rt: &R,
-    file: &mut OpenFile<Seats>,
-    driver: &mut FanDriver,
-) -> anyhow::Result<()> {
+fn try_out<R: Print>(rt: &R, file: &mut LimitFile, driver: &mut FanDriver) -> anyhow::Result<()> {
     read(rt, file, driver)?;
     write(rt, file, driver, b"85")?;
     write(rt, file, driver, b"hot")?;
@@ -130,9 +127,9 @@ fn run<N: Naming, R: Wait + Print>(rt: &R, alloc: Global, new: NewTree) -> anyho
 {
     let tree = new.named::<N>();
     let post = Posts::new(alloc, 16)?.post(1)?;
-    let mut file = open(rt, &tree, post)?;
+    let mut file = open(rt, alloc, &tree, post)?;
     let told = try_out(rt, &mut file, &mut FanDriver { limit: 70 });
-    let (hold, _) = file.close();
+    let (hold, _, _) = file.into_parts();
     hold.release();
     told
 }
