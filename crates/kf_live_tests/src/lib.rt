@@ -1,9 +1,14 @@
-//! The tests of `kf_looks`, over its public calls: proved over it, and not with it. They show what no clause
-//! says: that a look-up finds its node. (That it does so beside a tree, as commands come, is shown by
-//! `kf_shared_tests`.)
+//! The tests of what `kf_live` stands on (`kf_index`, `kf_tree` and `kf_looks`), over their public calls:
+//! proved over these crates, and not with them. (Those of `kf_live` itself are in `kf_shared_tests`.)
 #![tactic(auto)]
 
 #[cfg(test)]
+mod answers;
+#[cfg(test)]
 mod fixtures;
 #[cfg(test)]
-mod tests;
+mod look_tests;
+#[cfg(test)]
+mod room_tests;
+#[cfg(test)]
+mod tree_tests;

@@ -1,4 +1,5 @@
-//! That look-ups find names of each length, in words that are full, and by deep paths.
+//! That look-ups find names of each length, in words that are full, and by deep paths. No clause says that a
+//! look-up finds its node. (That it does so beside a tree, as commands come, is shown by `kf_shared_tests`.)
 use crate::fixtures::{FILE, chain, found, key, made, named};
 use kf_core::{Key, Node};
 use std::alloc::Global;
