@@ -1,17 +1,17 @@
 //! Files of a group by their paths: what opens them, what they show and take, how often their callbacks are
 //! called, and who sees a change.
-ghost use Rattle.std.specs.Prelude.{◌≡◌};
+ghost use Rattle.std.specs.Prelude.{◌≡◌, ◌≤◌, length};
 
 use crate::counted::Counted;
 use crate::fixtures::made_with;
 use crate::steps::{Step, walk};
 use kf_core::Refusal;
 use kf_driver::{
-    Driver, Notifying, Number, Opener, ReadOnly, Signed, Switch, create_rows, post_of, rows,
+    Driver, Notifying, Number, Opener, ReadOnly, Rows, Signed, Switch, create_rows, post_of, rows,
 };
 use kf_files::{Fault, FileError, Want};
 use kf_groups::{Attribute, Group, attribute, create_group};
-use kf_notify::Posts;
+use kf_notify::{Post, Posts};
 use kf_shared::{Naming, NewTree, SharedTree};
 use std::alloc::Global;
 use std::marker::Brand;
@@ -169,8 +169,29 @@ fn plant_others<N: Naming, R: Wait>(rt: &R, tree: &SharedTree<N>) -> Result<(), 
     Ok(())
 }
 
-/// Makes the files, those of the table in the slots 3 to 9, and walks the steps. The stores of the switch `v`
-/// raise its event number.
+/// Makes all files: the slots of the table's are 3 to 9.
+fn plant<N: Naming, T: Rows, R: Wait>(rt: &R, tree: &SharedTree<N>, rows: &T) -> Result<(), Refusal>
+    requires few { length (T.attributes rows.now) ≤ 64 }
+{
+    plant_group(rt, tree)?;
+    let mut editor = tree.edit(rt);
+    let root = editor.state().root();
+    create_rows(&mut editor, root, None, rows)?;
+    drop(editor);
+    plant_others(rt, tree)
+}
+
+/// A post of the file `v`.
+fn post_of_v<N: Naming, R: Wait>(
+    rt: &R,
+    tree: &SharedTree<N>,
+    posts: &mut Posts,
+) -> Result<Post, Refusal> {
+    let reader = tree.read(rt);
+    post_of(reader.state(), posts, reader.state().root(), b"v")
+}
+
+/// Makes the files and walks the steps. The stores of the switch `v` raise its event number.
 fn answer<N: Naming, R: Abort + Wait>(
     rt: &R,
     tree: &SharedTree<N>,
@@ -187,14 +208,11 @@ fn answer<N: Naming, R: Abort + Wait>(
         Row(attribute!(b"temperature_of_the_first_core", 0o444), ReadOnly(Number::new(1, 9))),
         Row(attribute!(b"temperature_of_the_first_coil", 0o444), ReadOnly(Number::new(2, 9))),
     };
-    plant_group(rt, tree)?;
-    let mut editor = tree.edit(rt);
-    let root = editor.state().root();
-    create_rows(&mut editor, root, None, &rows)?;
-    let post = post_of(editor.state(), posts, root, b"v")?;
-    drop(editor);
-    plant_others(rt, tree)?;
-    rows.others().callbacks().notifier.set(post);
+    plant(rt, tree, &rows)?;
+    rows.others()
+        .callbacks()
+        .notifier
+        .set(post_of_v(rt, tree, posts)?);
     walk(rt, tree, &Driver::new(rows), opener, posts, steps);
     Ok(())
 }

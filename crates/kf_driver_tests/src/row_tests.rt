@@ -6,8 +6,8 @@ use crate::fixtures::made_with;
 use crate::steps::{Step, walk};
 use kf_core::Refusal;
 use kf_driver::{
-    BinaryRow, Bytes, Driver, End, LineTags, Lines, Number, Opener, ReadOnly, Row, Show, Store,
-    Text, WriteOnly, create_rows, rows,
+    BinaryRow, Bytes, Driver, DriverTable, End, LineTags, Lines, Number, Opener, ReadOnly, Row,
+    Show, Store, Text, WriteOnly, create_rows, rows,
 };
 use kf_files::{Fault, Page, Want};
 use kf_groups::{Attribute, attribute};
@@ -86,7 +86,26 @@ fn are_refused<N: Naming, R: Wait>(rt: &R, tree: &SharedTree<N>) -> bool {
         && create_rows(&mut editor, root, None, &again).err() == Some(Refusal::Exists)
 }
 
-/// Makes the files of a table and of two lines, and walks the steps.
+/// Opens the files of this driver and walks the steps.
+fn serves<N: Naming, T: DriverTable, R: Abort + Wait>(
+    rt: &R,
+    alloc: Global,
+    tree: &SharedTree<N>,
+    driver: &Driver<T>,
+) -> Result<(), Refusal> {
+    let mut posts = Posts::new(alloc, 16)?;
+    let mut opener = Opener::new(alloc, &mut tree.edit(rt), posts.another()?)?;
+    walk(rt, tree, driver, &mut opener, &mut posts, &STEPS);
+    let mut reset = opener.open(rt, tree, b"/reset", Want::WRITE)?;
+    assert!(rt;
+        reset.write(rt, tree, driver, b"9\n") == Ok(2),
+        "the store was taken"
+    );
+    walk(rt, tree, driver, &mut opener, &mut posts, &AFTER);
+    Ok(())
+}
+
+/// Makes the files of a table and of two lines, and uses them.
 fn published<N: Naming, R: Abort + Wait>(
     rt: &R,
     alloc: Global,
@@ -101,7 +120,6 @@ fn published<N: Naming, R: Abort + Wait>(
     };
     let tags = LineTags::new(4, 2);
     let mut lines = Vec::new(alloc);
-    let mut posts = Posts::new(alloc, 16)?;
     let mut editor = tree.edit(rt);
     let root = editor.state().root();
     create_rows(&mut editor, root, None, &others)?;
@@ -114,18 +132,10 @@ fn published<N: Naming, R: Abort + Wait>(
         tags.create_rows(&mut editor, root, Some(name), line, &rows)?;
         lines.push(rows)?;
     }
-    let mut opener = Opener::new(alloc, &mut editor, posts.another()?)?;
     drop(editor);
     assert!(rt; are_refused(rt, tree), "a name stood there twice");
     let driver = Driver::new(Lines::new(tags, lines.as_slice(), others));
-    walk(rt, tree, &driver, &mut opener, &mut posts, &STEPS);
-    let mut reset = opener.open(rt, tree, b"/reset", Want::WRITE)?;
-    assert!(rt;
-        reset.write(rt, tree, &driver, b"9\n") == Ok(2),
-        "the store was taken"
-    );
-    walk(rt, tree, &driver, &mut opener, &mut posts, &AFTER);
-    Ok(())
+    serves(rt, alloc, tree, &driver)
 }
 
 fn publishes<N: Naming, R: Abort + Wait>(rt: &R, alloc: Global, new: NewTree) -> Result<(), Refusal>
