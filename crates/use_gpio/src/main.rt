@@ -71,16 +71,17 @@ fn stores<N: Naming, T: DriverTable, R: Wait>(
 /// whether all was stored.
 fn uses<N: Naming + Send + Sync, T: DriverTable + Sync, R: Threads + Wait + Sync>(
     rt: &R,
+    alloc: Global,
     tree: &SharedTree<N>,
     driver: &Driver<T>,
-    opener: &mut Opener<N>,
     posts: &mut Posts,
 ) -> Result<(bool, bool), Refusal> {
+    let mut opener = Opener::new(alloc, &mut tree.edit(rt), posts.another()?)?;
     let mut watched = opener.open(rt, tree, b"/gpio0/l3/value", Want::BOTH)?;
     let (levels, stored) = join(
         rt,
         || waits(rt, tree, driver, &mut watched),
-        || stores(rt, tree, driver, opener, posts),
+        || stores(rt, tree, driver, &mut opener, posts),
     );
     Ok((levels, stored?))
 }
@@ -100,7 +101,8 @@ fn run<N: Naming + Send + Sync, R: Threads + Wait + Print + Sync>(
     let mut editor = tree.edit(rt);
     let root = editor.state().root();
     let chip = editor.create(root, b"gpio0", Node::Dir, false)?;
-    for (line, name) in (0..8u32).zip(NAMES) {
+    for line in 0..8u32 {
+        let name = NAMES[line as usize];
         let registers = vec![in alloc; 0; 64]?;
         let rows = rows! {
             Row(attribute!(b"value", 0o644), Notifying::new(rt, Switch::new(false))),
@@ -114,11 +116,9 @@ fn run<N: Naming + Send + Sync, R: Threads + Wait + Print + Sync>(
         lines.push(rows)?;
     }
     editor.activate(chip)?; // now all of it is live
-    let numbers = posts.another()?;
-    let mut opener = Opener::new(alloc, &mut editor, numbers)?;
     drop(editor);
     let driver = Driver::new(Lines::new(tags, lines.as_slice(), End));
-    let (levels, stored) = uses(rt, &tree, &driver, &mut opener, &mut posts)?;
+    let (levels, stored) = uses(rt, alloc, &tree, &driver, &mut posts)?;
     Ok(println!(rt; "levels alone: {levels}, all stored until gone: {stored}")?)
 }
 
