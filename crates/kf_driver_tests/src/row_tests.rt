@@ -123,7 +123,8 @@ fn published<N: Naming, R: Abort + Wait>(
     let mut editor = tree.edit(rt);
     let root = editor.state().root();
     create_rows(&mut editor, root, None, &others)?;
-    for (line, name) in (0..2u32).zip(LINES) {
+    for line in 0..2u32 {
+        let name = LINES[line as usize];
         let first = 10u64.saturating_mul(u64::from(line).saturating_add(1));
         let rows = rows! {
             Row(X, ReadOnly(Number::new(first, 99))),
