@@ -29,3 +29,13 @@ held_refusal (Err back) = Some back.2
 abbrev pub held_after : {Hold Page : Type 0} → Result (Held Hold) (Hold × Page × Refusal) → Hold
 held_after (Ok file) = file.hold
 held_after (Err back) = back.0
+
+-- the hold after the try of an open, which comes back either way
+abbrev pub tried_hold : {Hold : Type 0} → Result (Hold × ℕ) (Hold × Refusal) → Hold
+tried_hold (Ok found) = found.0
+tried_hold (Err back) = back.0
+
+-- why the try of an open was refused. None: it was not
+abbrev pub tried_refusal : {Hold : Type 0} → Result (Hold × ℕ) (Hold × Refusal) → Option Refusal
+tried_refusal (Ok found) = None
+tried_refusal (Err back) = Some back.1

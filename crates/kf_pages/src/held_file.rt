@@ -4,7 +4,7 @@ ghost use Rattle.std.specs.Prelude.{◌≡◌, ◌≤◌, ℕ, length, IsSome, I
 ghost use Rattle.kf_core.specs.Calls.{Visits, GivenBack};
 ghost use Rattle.kf_core.specs.declared.caller.Phase.TheVariants.{Running};
 ghost use Rattle.kf_pages.specs.Files.{Opens, Reads, Writes, Polls, TriesShow, Gives, Stored, new_file, tag_of, allows, slice, text_in_file, text_told};
-ghost use Rattle.kf_pages.specs.Held.{held_after, held_refusal};
+ghost use Rattle.kf_pages.specs.Held.{held_after, held_refusal, tried_hold, tried_refusal};
 
 use crate::contents::{Contents, Want};
 use crate::event_numbers::EventNumbers;
@@ -39,6 +39,37 @@ fn allows(mode: u16, want: Want) -> bool
     ensures told { result ≡ allows mode want }
 {
     (!want.read || mode & 0o444 != 0) && (!want.write || mode & 0o222 != 0)
+}
+
+/// Whether a file of this node may be opened as wanted: one try of the hold, which comes back. It returns the
+/// node's tag, or why not. (The page is not here: each way out of a function moves what it has by value.)
+fn try_open<G: Guard>(
+    guard: &mut G,
+    hold: G::Hold,
+    node: Node,
+    want: Want,
+) -> Result<(G::Hold, u64), (G::Hold, Refusal)>
+    requires may_enter { G.may_enter guard.old hold }
+    ensures opens { Opens
+        (Visits G.enters G.refuses G.leaves G.Call.view_of (Unit {0}) (λ _. Unit {0})
+        guard.old hold guard.new (tried_hold result))
+        node want (tried_refusal result) }
+    ensures tag { IfOk result (λ found. found.1 ≡ tag_of node) }
+    ensures may_enter { G.may_enter guard.new (tried_hold result) }
+{
+    let (mode, tag) = match node {
+        Node::Dir => return Err((hold, Refusal::IsDir)),
+        Node::Link { target: _ } => return Err((hold, Refusal::Invalid)),
+        Node::File { mode, tag } => (mode, tag),
+    };
+    let hold = match guard.enter(hold) {
+        Ok(call) => guard.leave(call),
+        Err(hold) => return Err((hold, Refusal::NoDevice)),
+    };
+    if !allows(mode, want) {
+        return Err((hold, Refusal::Access));
+    }
+    Ok((hold, tag))
 }
 
 /// Stores the first 4,096 bytes, if there are any.
@@ -83,23 +114,14 @@ impl<G: Guard, P: PageHolder> HeldFile<G, P> {
         ensures tag { IfOk result (λ file. file.tag ≡ tag_of node) }
         ensures may_enter { G.may_enter guard.new (held_after result) }
     {
-        let (mode, tag) = match node {
-            Node::Dir => return Err((hold, page, Refusal::IsDir)),
-            Node::Link { target: _ } => return Err((hold, page, Refusal::Invalid)),
-            Node::File { mode, tag } => (mode, tag),
-        };
-        let hold = match guard.enter(hold) {
-            Ok(call) => guard.leave(call),
-            Err(hold) => return Err((hold, page, Refusal::NoDevice)),
-        };
-        if !allows(mode, want) {
-            return Err((hold, page, Refusal::Access));
+        match try_open(guard, hold, node, want) {
+            Ok((hold, tag)) => Ok(HeldFile {
+                hold: Some(hold),
+                tag,
+                contents: Contents::new(want, page),
+            }),
+            Err((hold, refusal)) => Err((hold, page, refusal)),
         }
-        Ok(HeldFile {
-            hold: Some(hold),
-            tag,
-            contents: Contents::new(want, page),
-        })
     }
 
     /// Reads the text from the offset on, in bytes, into the front of `out`, and returns how many bytes that

@@ -1,6 +1,6 @@
 use Rattle.std.proofs.Common.{Some, refl}
 use Rattle.kf_pages.proofs.Visiting.{untouched, opens_file}
-use Rattle.kf_pages.proofs.held_file.HeldFile.open.Goals as goal
+use Rattle.kf_pages.proofs.held_file.try_open.Goals as goal
 
 pub returns-then-not-allows-clause-opens : goal.returns-then-not-allows-clause-opens
 returns-then-not-allows-clause-opens g c =
