@@ -92,6 +92,18 @@ impl World {
         None
     }
 
+    /// From now on the search begins after this slot if it began there, and else at the lowest free slot.
+    pub(super) fn pass_over(&mut self, slot: u32)
+        requires taken { ¬ IsFree self.old.world slot }
+        ensures { self.new ≡ self.old }
+    {
+        if slot == self.hint.lowest && slot < u32::MAX {
+            self.hint.raise(slot + 1);
+            return;
+        }
+        self.raise_lowest();
+    }
+
     /// From now on the search begins at the lowest free slot. If no slot is free, it begins past the last.
     pub(super) fn raise_lowest(&mut self)
         ensures { self.new ≡ self.old }

@@ -42,7 +42,7 @@ impl World {
                 doomed: false,
             }),
         );
-        self.raise_lowest();
+        self.pass_over(key.slot);
     }
 
     /// Activates a node (`kernfs_activate`). It is then live, unless a caller hides it.
