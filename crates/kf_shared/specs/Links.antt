@@ -11,8 +11,8 @@ use Rattle.kf_shared.specs.Noted.{tree_in}
 abbrev pub LeadInRun : Key → List Link → List Note → Type 0
 LeadInRun root links notes = LeadAs (tree_in notes) root links
 
--- each time that a link was made, all links so far led as the tree has it that a beginning of this history made.
--- Earlier links led as an earlier tree of it, or as the same one
+-- each time that a link was made, all links so far led as the tree has it that a beginning of this history
+-- made. Earlier links led as an earlier tree of it, or as the same one
 abbrev pub AreOfRun : Key → List Link → List Note → Type 0
 AreOfRun root [] notes = (part : List Note) × IsPrefix part notes × LeadInRun root [] part
 AreOfRun root (l ∷ older) notes =

@@ -21,8 +21,8 @@ use Rattle.kf_shared.specs.Noted.{tree_in}
 abbrev pub IsLedInRun : Locked → Type 0
 IsLedInRun s = AreOfRun s.state.root s.links (history s)
 
--- the lock is free, and these are the words of its look-ups: they meet their rule, and the writer at them made
--- the links that the lock's value knows, and no other
+-- the lock is free, and these are the words of its look-ups: they meet their rule, and the writer at them
+-- made the links that the lock's value knows, and no other
 pub record AreItsWords (slots : ℕ) (words : Table) (s : Locked) : Type 0 where
   pub led : IsLedInRun s
   pub kept : Kept slots words
@@ -48,9 +48,9 @@ LookUpsStart = (slots version : ℕ) (s : Locked) → IsLedInRun s → s.links �
 abbrev pub HasSeen : Table → ℕ → List Link → Type 0
 HasSeen words seat seen = (v : LookView) × (get_elem? words.views seat ≡ some v) × IsLater v.seen seen
 
--- whatever a look-up finds in what its seat has seen is what a tree of the run has: there is a beginning of the
--- history, and in the tree that it made the path leads to this node, which is live there, and of this kind. That
--- holds too of what a seat saw while a command was under way
+-- whatever a look-up finds in what its seat has seen is what a tree of the run has: there is a beginning of
+-- the history, and in the tree that it made the path leads to this node, which is live there, and of this
+-- kind. That holds too of what a seat saw while a command was under way
 abbrev pub LookUpsAreOfRun : Type 0
 LookUpsAreOfRun = (slots : ℕ) (words : Table) (s : Locked) (seat : ℕ) (seen : List Link)
     → AreItsWords slots words s → HasSeen words seat seen
@@ -58,8 +58,8 @@ LookUpsAreOfRun = (slots : ℕ) (words : Table) (s : Locked) (seat : ℕ) (seen 
     × ((path : List ℕ) (found : Found) → led seen s.state.root path ≡ Some found
     → Leads (tree_in part) s.state.root path found)
 
--- and what the seat found before, when it had seen only so much of that, an earlier tree of the run had, or the
--- same tree: no look-up goes back in the run
+-- and what the seat found before, when it had seen only so much of that, an earlier tree of the run had, or
+-- the same tree: no look-up goes back in the run
 abbrev pub LookUpsGoOn : Type 0
 LookUpsGoOn = (slots : ℕ) (words : Table) (s : Locked) (seat : ℕ) (seen before : List Link)
     → AreItsWords slots words s → HasSeen words seat seen → IsLater seen before

@@ -36,14 +36,14 @@ pub fn running_tree()
     ensures gone_for_good { GoneForGood }
 {}
 
-/// What holds of all that look-ups have seen, in any state of their words that their rule allows, whenever the
-/// tree lock is free and these are the words of its tree. It does nothing: its clauses say what follows from
-/// what the lock keeps.
+/// What holds of all that look-ups have seen, in any state of their words that their rule allows, whenever
+/// the tree lock is free and these are the words of its tree. It does nothing: its clauses say what follows
+/// from what the lock keeps.
 ///
-/// A look-up finds what a tree of the one run has: there is a beginning of the history, and in the tree that it
-/// made the path leads to the node that was found, live and of the kind that was found. The state that a command
-/// passes through while it changes several nodes is no such tree, so no look-up finds it. What the same
-/// looker finds later is of a later tree, or of the same one.
+/// A look-up finds what a tree of the one run has: there is a beginning of the history, and in the tree that
+/// it made the path leads to the node that was found, live and of the kind that was found. The state that a
+/// command passes through while it changes several nodes is no such tree, so no look-up finds it. What the
+/// same looker finds later is of a later tree, or of the same one.
 pub fn look_ups_are_of_run()
     ensures start { LookUpsStart }
     ensures of_run { LookUpsAreOfRun }

@@ -19,7 +19,8 @@ use Rattle.kf_words.specs.Steps.{Seated, Sighted, plain, master_of, with_load, w
 use Rattle.kf_words.specs.Nodes.{FoundRoom, FoundFree, HasMarks, HasLooked, master_sight}
 use Rattle.kf_words.specs.TableSteps.{Table, StepKind, loads_hold, pins_hold, unpins_hold, splits, stores_fresh, births, takes_bias, marks_node, looks_over, unlinks, notes, answers, compares, plus, minus, same, Plays, WordStep}
 use Rattle.kf_words.specs.History.{erased, Kept, after_giving, given, answered, hears}
-use Rattle.kf_words.specs.Made.{WasMadeByMaster, MasterMakes, MakesNote, MakesCompare}
+use Rattle.kf_words.specs.Made.{WasMadeByMaster}
+use Rattle.kf_words.specs.MadeByMaster.{MasterMakes, MakesNote, MakesCompare}
 use Rattle.kf_words.proofs.Seating.{master_seat}
 use Rattle.kf_words.proofs.Keeps.{view_there, between, now_seen, is_now, alone, all_notes, told_now, step_kept, split_kept, join_kept, from_there, led_here, shown_here}
 use Rattle.kf_words.proofs.MasterAllowed.{active_slot, hold_slot, load_allowed}

@@ -10,7 +10,8 @@ use Rattle.kf_words.specs.Steps.{Sighted, plain, master_of, kept, MasterBecomes}
 use Rattle.kf_words.specs.Nodes.{master_sight}
 use Rattle.kf_words.specs.TableSteps.{stores_node}
 use Rattle.kf_words.specs.History.{Kept}
-use Rattle.kf_words.specs.Made.{WasMadeByMaster, PutsNodeWord}
+use Rattle.kf_words.specs.Made.{WasMadeByMaster}
+use Rattle.kf_words.specs.MadeByMaster.{PutsNodeWord}
 use Rattle.kf_words.proofs.MasterMade.{master_made}
 
 pub node_slot : (place slot i : ℕ) → place < 5 → node_index place slot ≡ i → slot_of i ≡ slot

@@ -10,6 +10,7 @@ pub mod Events
 pub mod TableSteps
 pub mod History
 pub mod Made
+pub mod MadeByMaster
 pub mod Another
 pub mod Pins
 pub mod Makers

@@ -5,18 +5,16 @@ use lib.ListN.{get_elem?}
 use Rattle.atomic_table.specs.Table.{Step}
 use Rattle.kf_core.specs.declared.key.Node.{Node}
 use Rattle.kf_core.specs.Bare.{is_live}
-use mathlib.Core.List.{IsPrefix}
 use Rattle.kf_words.specs.declared.counts.Counts.{Counts}
-use Rattle.kf_words.specs.declared.note.Note.{Note}
 use Rattle.kf_words.specs.declared.sight.Seen.{Seen}
 use Rattle.kf_words.specs.declared.view.View.TheVariants as seat
-use Rattle.kf_words.specs.Layout.{active_index, hold_index, sleepers_index, node_index, place_of, slot_of, hold_word, active_word, holds_in, users_in, is_full, last_user_wakes, wants_wake}
+use Rattle.kf_words.specs.Layout.{active_index, hold_index, sleepers_index, hold_word, active_word, holds_in, users_in, is_full, last_user_wakes, wants_wake}
 use Rattle.kf_words.specs.Rule.{Shown}
-use Rattle.kf_words.specs.Steps.{Seated, Sighted, plain, caller_of, after_try, after_undo, after_leave, after_break, after_restore, after_look, after_part, after_hide, after_look_hidden, after_release, after_miss, after_count, after_share, unmoved, kept, CallerBecomes, MasterBecomes, ShowsKey}
+use Rattle.kf_words.specs.Steps.{Seated, Sighted, plain, caller_of, after_try, after_undo, after_leave, after_break, after_restore, after_look, after_part, after_hide, after_look_hidden, after_release, after_miss, after_count, after_share, unmoved, CallerBecomes, ShowsKey}
 use Rattle.kf_words.specs.declared.view.CallerView.{CallerView}
 use Rattle.kf_words.specs.Callers.{Handle, Owed, CallerSight, caller_sight, seat_view}
-use Rattle.kf_words.specs.Nodes.{MasterSight, master_sight}
-use Rattle.kf_words.specs.TableSteps.{Table, world, StepKind, IsSeated, WordStep, WordRun, tries, undoes, leaves, breaks, restores, looks, parts, hides, looks_hidden, shows, releases, sees_holds, counts_hold, sleeps, awakes, loads_sleepers, loads_hold, pins_hold, stores_fresh, births, looks_over, unlinks, notes, compares, stores_node}
+use Rattle.kf_words.specs.Nodes.{MasterSight}
+use Rattle.kf_words.specs.TableSteps.{Table, world, StepKind, IsSeated, WordStep, WordRun, tries, undoes, leaves, breaks, restores, looks, parts, hides, looks_hidden, shows, releases, sees_holds, counts_hold, sleeps, awakes, loads_sleepers, loads_hold, pins_hold, stores_fresh, births, looks_over, unlinks, stores_node}
 use Rattle.kf_words.specs.Notes.{notes_of}
 use Rattle.kf_words.specs.History.{opened_as}
 use Rattle.kf_words.specs.NodeWords.{kind_word, first_word, second_word}
@@ -377,29 +375,3 @@ pub record WereLoaded (slot : ℕ) (counts : Counts) (before after : MasterSight
   pub look : WasMadeByMaster (looks_over slot) loaded after
   pub holds_are : counts.holds ≡ holds_in (hold_word load.found.words slot)
   pub users_are : counts.users ≡ users_in (active_word look.found.words slot)
-
--- what a word of a node that is put says: which of them, and the number
-abbrev pub PutsNodeWord : Step (Unit {0}) → Sighted → ℕ → Sighted → Type 0
-PutsNodeWord st me found me' = (st.word ≡ node_index (place_of st.word) (slot_of st.word))
-    × (MasterBecomes kept st (plain me) found (plain me')
-    × WasMadeByMaster (stores_node (slot_of st.word) (place_of st.word) st.first) (master_sight me.0)
-    (master_sight me'.0))
-
--- what a step of the Master says: that it is on the word that this index has of some slot, the view after
--- it, and that it was the next of the one run
-abbrev pub MasterMakes : (ℕ → ℕ) → (ℕ → StepKind) → (Step (Unit {0}) → Seated → ℕ → Seated → Type 0)
-    → Step (Unit {0}) → Sighted → ℕ → Sighted → Type 0
-MasterMakes index kind tells st me found me' = (st.word ≡ index (slot_of st.word))
-    × (tells st (plain me) found (plain me')
-    × WasMadeByMaster (kind (slot_of st.word)) (master_sight me.0) (master_sight me'.0))
-
--- what a step of the Master says that adds a note to the run, on whatever word: it changes no view
-abbrev pub MakesNote : Note → Step (Unit {0}) → Sighted → ℕ → Sighted → Type 0
-MakesNote note st me found me' =
-    (plain me' ≡ plain me) × WasMadeByMaster (notes note) (master_sight me.0) (master_sight me'.0)
-
--- what a step of the Master says that compares what it got with the run so far: that is a beginning. It
--- changes no view
-abbrev pub MakesCompare : Step (Unit {0}) → Sighted → ℕ → Sighted → Type 0
-MakesCompare st me found me' = (plain me' ≡ plain me) × WasMadeByMaster compares (master_sight me.0)
-    (master_sight me'.0) × IsPrefix me.0.shown me'.0.seen.steps

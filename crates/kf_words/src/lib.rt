@@ -25,6 +25,7 @@ mod joins;
 mod laws;
 mod layout;
 mod master;
+mod master_plays;
 mod master_seat;
 mod master_steps;
 mod master_token;

@@ -15,13 +15,13 @@ ghost use Rattle.kf_words.specs.declared.view.View.TheVariants as seat_of;
 
 use crate::joins::{Hears, Knowing};
 use crate::layout::{BIAS, GENERATION, LINKED, active_index, hold_index, mark_bits, node_index};
-use crate::master_seat::MasterSeat;
-use crate::node_words::words_of;
-use crate::note::Said;
-use crate::plays::{
+use crate::master_plays::{
     Answers, Births, Compares, LoadsHold, LooksOver, MarksNode, Notes, PinsHold, SplitsHold,
     StoresFresh, StoresNode, TakesBias, Unlinks, UnpinsHold,
 };
+use crate::master_seat::MasterSeat;
+use crate::node_words::words_of;
+use crate::note::Said;
 use crate::sight::Sight;
 use atomic_table::Seat;
 use kf_core::{Node, NodeFlags};

@@ -6,7 +6,8 @@ use Rattle.kf_words.specs.Steps.{Seated, TellsSlot, master_of, with_load, LoadsH
 use Rattle.kf_words.proofs.MasterAllowed.{hold_slot, keeps_master}
 use Rattle.kf_words.specs.TableSteps.{loads_hold}
 use Rattle.kf_words.specs.Nodes.{MasterSight, master_sight}
-use Rattle.kf_words.specs.Made.{MasterMakes, WasMadeByMaster}
+use Rattle.kf_words.specs.Made.{WasMadeByMaster}
+use Rattle.kf_words.specs.MadeByMaster.{MasterMakes}
 use Rattle.kf_words.proofs.MasterMade.{load_made}
 use Rattle.kf_words.proofs.Added.{no_note}
 use Rattle.kf_words.proofs.Tokens.{asked, told_of, of_master, made_of}

@@ -5,7 +5,8 @@ use Rattle.kf_words.specs.Steps.{Seated, master_of, with_look, MasterBecomes}
 use Rattle.kf_words.proofs.MasterAllowed.{active_slot, keeps_master}
 use Rattle.kf_words.specs.TableSteps.{looks_over}
 use Rattle.kf_words.specs.Nodes.{MasterSight, master_sight}
-use Rattle.kf_words.specs.Made.{MasterMakes, WasMadeByMaster}
+use Rattle.kf_words.specs.Made.{WasMadeByMaster}
+use Rattle.kf_words.specs.MadeByMaster.{MasterMakes}
 use Rattle.kf_words.proofs.MasterMade.{look_made}
 use Rattle.kf_words.proofs.Added.{no_note}
 use Rattle.kf_words.proofs.Tokens.{asked, told_of, made_of}

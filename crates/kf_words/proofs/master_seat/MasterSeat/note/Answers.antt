@@ -2,7 +2,8 @@ use Rattle.std.proofs.Common.{◌≡◌, rules, arith, ap}
 use Rattle.std.specs.Arc.{arc_value}
 use Rattle.kf_words.specs.TableSteps.{notes, same}
 use Rattle.kf_words.specs.Nodes.{MasterSight, master_sight}
-use Rattle.kf_words.specs.Made.{MakesNote, WasMadeByMaster}
+use Rattle.kf_words.specs.Made.{WasMadeByMaster}
+use Rattle.kf_words.specs.MadeByMaster.{MakesNote}
 use Rattle.kf_words.proofs.MasterMade.{note_made}
 use Rattle.kf_words.proofs.Added.{noted}
 use Rattle.kf_words.proofs.Tokens.{asked, made_of}

@@ -5,7 +5,8 @@ use Rattle.kf_words.specs.Steps.{Seated, master_of, unread, after_store, MasterB
 use Rattle.kf_words.proofs.MasterAllowed.{active_slot, keeps_master}
 use Rattle.kf_words.specs.TableSteps.{stores_fresh}
 use Rattle.kf_words.specs.Nodes.{MasterSight, master_sight}
-use Rattle.kf_words.specs.Made.{MasterMakes, WasMadeByMaster}
+use Rattle.kf_words.specs.Made.{WasMadeByMaster}
+use Rattle.kf_words.specs.MadeByMaster.{MasterMakes}
 use Rattle.kf_words.proofs.MasterMade.{store_made}
 use Rattle.kf_words.proofs.Added.{no_note}
 use Rattle.kf_words.proofs.Tokens.{asked, told_of, made_of}

@@ -4,7 +4,8 @@ use Rattle.kf_words.specs.Layout.{place_of, slot_of}
 use Rattle.kf_words.specs.Steps.{Seated, master_of, kept}
 use Rattle.kf_words.specs.TableSteps.{stores_node}
 use Rattle.kf_words.specs.Nodes.{MasterSight, master_sight}
-use Rattle.kf_words.specs.Made.{PutsNodeWord, WasMadeByMaster}
+use Rattle.kf_words.specs.Made.{WasMadeByMaster}
+use Rattle.kf_words.specs.MadeByMaster.{PutsNodeWord}
 use Rattle.atomic_table.specs.Table.{step}
 use mathlib.Core.Option.{none}
 use Rattle.kf_words.proofs.MasterAllowed.{keeps_master}

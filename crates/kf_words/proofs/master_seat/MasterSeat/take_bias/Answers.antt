@@ -5,7 +5,8 @@ use Rattle.kf_words.specs.Layout.{bias, active_index, slot_of}
 use Rattle.kf_words.specs.Steps.{Seated, master_of, MasterBecomes, unread, with_marks, activated_marks}
 use Rattle.kf_words.specs.TableSteps.{minus, takes_bias}
 use Rattle.kf_words.specs.Nodes.{MasterSight, master_sight}
-use Rattle.kf_words.specs.Made.{MasterMakes, WasMadeByMaster}
+use Rattle.kf_words.specs.Made.{WasMadeByMaster}
+use Rattle.kf_words.specs.MadeByMaster.{MasterMakes}
 use Rattle.kf_words.proofs.MasterAllowed.{active_slot, keeps_master}
 use Rattle.kf_words.proofs.MasterMade.{rise_made}
 use Rattle.kf_words.proofs.Added.{no_note}

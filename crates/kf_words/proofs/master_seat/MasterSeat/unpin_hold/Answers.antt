@@ -5,7 +5,8 @@ use Rattle.kf_words.specs.Nodes.{MasterSight, master_sight}
 use Rattle.kf_words.specs.Steps.{Seated, master_of, unread, without_pin, MasterBecomes}
 use Rattle.kf_words.proofs.MasterAllowed.{hold_slot, keeps_master}
 use Rattle.kf_words.specs.TableSteps.{unpins_hold}
-use Rattle.kf_words.specs.Made.{MasterMakes, WasMadeByMaster}
+use Rattle.kf_words.specs.Made.{WasMadeByMaster}
+use Rattle.kf_words.specs.MadeByMaster.{MasterMakes}
 use Rattle.kf_words.proofs.Added.{no_note}
 use Rattle.kf_words.proofs.MasterMade.{unpin_made}
 use Rattle.kf_words.proofs.Tokens.{asked, told_of, made_of}
