@@ -1,5 +1,6 @@
-//! The tests of gates, of hot nodes and of their open files, over the public calls of `kf_gates`, `kf_hot`,
-//! `kf_shared` and `kf_files`: proved over these crates, and not with them.
+//! The tests of gates, of hot nodes and their open files, and of registries, over the public calls of
+//! `kf_gates`, `kf_hot`, `kf_registry`, `kf_shared` and `kf_files`: proved over these crates, and not with
+//! them.
 #![tactic(auto)]
 
 #[cfg(test)]
@@ -14,5 +15,7 @@ mod gates;
 mod nodes;
 #[cfg(test)]
 mod passes;
+#[cfg(test)]
+mod registry;
 #[cfg(test)]
 mod tests;

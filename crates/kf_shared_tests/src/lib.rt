@@ -1,4 +1,5 @@
-//! The tests of `kf_shared`, over its public calls: proved over the crate, and not with it.
+//! The tests of `kf_words` and of `kf_shared`, over their public calls: proved over these crates, and not
+//! with them.
 #![tactic(auto)]
 
 mod laws;
@@ -25,3 +26,5 @@ mod turns;
 mod unused;
 #[cfg(test)]
 mod waits;
+#[cfg(test)]
+mod words;

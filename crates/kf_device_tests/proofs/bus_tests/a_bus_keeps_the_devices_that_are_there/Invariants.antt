@@ -1,5 +1,0 @@
-use Rattle.kf_device_tests.proofs.bus_tests.a_bus_keeps_the_devices_that_are_there.Given as goal
-
--- the tree that was just made
-abbrev pub ghosts-walk : goal.ghosts-walk
-ghosts-walk g a = record { table = a.new.master.table }

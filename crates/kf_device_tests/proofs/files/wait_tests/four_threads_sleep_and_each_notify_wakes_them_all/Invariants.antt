@@ -1,5 +1,0 @@
-use Rattle.kf_device_tests.proofs.files.wait_tests.four_threads_sleep_and_each_notify_wakes_them_all.Given as goal
-
--- the tree that was just made
-abbrev pub ghosts-four_are_woken : goal.ghosts-four_are_woken
-ghosts-four_are_woken g a = record { table = a.new.master.table }

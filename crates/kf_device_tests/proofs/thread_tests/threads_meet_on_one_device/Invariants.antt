@@ -1,5 +1,0 @@
-use Rattle.kf_device_tests.proofs.thread_tests.threads_meet_on_one_device.Given as goal
-
--- the tree that was just made
-abbrev pub ghosts-crowds_meet : goal.ghosts-crowds_meet
-ghosts-crowds_meet g a = record { table = a.new.master.table }

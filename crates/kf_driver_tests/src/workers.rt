@@ -1,0 +1,3 @@
+//! The tests of `kf_workers`.
+mod run_tests;
+mod waiting;

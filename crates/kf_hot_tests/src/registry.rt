@@ -1,0 +1,6 @@
+//! The tests of `kf_registry`.
+mod counted;
+mod crowd;
+mod hot;
+mod steps;
+mod tests;

@@ -1,5 +1,0 @@
-use Rattle.kf_registry_tests.proofs.tests.one_thread.Given as goal
-
--- it is of the tree that was just made
-abbrev pub ghosts-alone : goal.ghosts-alone
-ghosts-alone g a = record { table = a.new.tree.master.table }
