@@ -155,12 +155,12 @@ def main():
     passed = failed = 0
     for name, case in CASES.items():
         count, stuck, broken = search(case, None)
-        print(f"{name}: {count} states, {stuck} stuck, {broken} broken")
+        print(f"{name}: {'FAILED: ' if stuck or broken else ''}{count} states, {stuck} stuck, {broken} broken")
         passed, failed = passed + (not stuck and not broken), failed + bool(stuck or broken)
     for at, variants in ((1, WAKE_VARIANTS), (2, SAFE_VARIANTS)):
         for variant in variants:
             where = next((name for name, case in CASES.items() if search(case, variant)[at]), None)
-            print(f"if {variant}: {('somebody is stuck' if at == 1 else 'the gate is broken') + ', in ' + where if where else 'NOT SEEN'}")
+            print(f"if {variant}: {('somebody is stuck' if at == 1 else 'the gate is broken') + ', in ' + where if where else 'FAILED: not found'}")
             passed, failed = passed + bool(where), failed + (not where)
     print(f"{passed} passed, {failed} failed")
     sys.exit(1 if failed else 0)

@@ -327,11 +327,11 @@ def try_all(*models):
     for cases, variants, next_of, stuck_in in models:
         for name, start in cases.items():
             states, stuck = search(start, None, next_of, stuck_in)
-            print(f"{name}: {states} states, {'STUCK: ' + str(stuck) if stuck else 'nobody is stuck'}")
+            print(f"{name}: {states} states, {'FAILED: stuck in ' + str(stuck) if stuck else 'nobody is stuck'}")
             passed, failed = passed + (not stuck), failed + bool(stuck)
         for variant in variants:
             where = next((name for name, start in cases.items() if search(start, variant, next_of, stuck_in)[1]), None)
-            print(f"if {variant}: {'somebody is stuck, in ' + where if where else 'NOT SEEN'}")
+            print(f"if {variant}: {'somebody is stuck, in ' + where if where else 'FAILED: nobody is stuck'}")
             passed, failed = passed + bool(where), failed + (not where)
     print(f"{passed} passed, {failed} failed")
     sys.exit(1 if failed else 0)
