@@ -219,8 +219,10 @@ def check(options, parser):
         parser.error("--at: the line must begin with `at `")
     if options.poke and not options.network:
         options.jobs = 1  # the daemons would share their ports
-    for path in set(options.device or ()) - fakesys.Description(fakesys_run.read_text(options.description)).directories():
-        raise fakesys_run.Refused(f"the description has no directory {path}")
+    description = fakesys.Description(fakesys_run.read_text(options.description))
+    options.device = [description.real(path) for path in options.device or ()] or None
+    for path in set(options.device or ()) - description.directories():
+        raise fakesys_run.Refused(f"--device: the description has no directory {path}")
 
 
 def read_known(name):

@@ -31,7 +31,7 @@ def show(options, find):
     lines = [
         f"{'KNOWN' if find.is_known else 'FOUND'}: {find.ending.what()}",
         f"    {find.line()}",
-        *(f"      | {line}" for line in find.ending.telling()[:SHOWN] if line),
+        *(f"      | {line}" for line in find.ending.excerpt(SHOWN) if line),
         f"  repeated {find.again} of {TIMES} times:",
         f"  {again(options, find.line())}",
     ]

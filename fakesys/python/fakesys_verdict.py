@@ -73,6 +73,14 @@ class Ending:
         first = next((at for at, line in enumerate(lines) if NOTABLE.search(line)), max(0, len(lines) - SHOWN))
         return [ADDRESS.sub("..", shown(line)) for line in lines[first : first + SHOWN]]
 
+    def excerpt(self, count):
+        """The first of these lines; of a traceback the last ones, which are the innermost call and the exception."""
+        lines = self.telling()
+        if lines[0].startswith("Traceback") and (found := TRACEBACK.search(self.said)):
+            marks = set(" ^~")  # (Python marks a part of a line by a line of these)
+            lines = [ADDRESS.sub("..", shown(line)) for line in found[0].split("\n") if set(line) - marks][-count:]
+        return lines[:count]
+
     def headline(self):
         """The line of its output by which two crashes differ, or nothing."""
         first = self.telling()[0]

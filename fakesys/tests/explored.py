@@ -135,6 +135,10 @@ def judged(tools):
     reader = tools.file("once.py", ONCE)
     ran = tools.run("explore", "--actions", "unplug", "--runs", "8", tools.chip, "--", sys.executable, reader, timeout=PATIENCE)
     must(ran.returncode == 1 and found_in(ran)[0][0].startswith("traceback: FileNotFoundError"), f"a traceback: {ran}")
+    shown = re.search(r"\n      \|   File \".*once\.py\", line 4.*\n      \|     open\(.*\n      \| FileNotFoundError: ", ran.stdout)
+    must(shown, f"the innermost call and the exception: {ran}")
+    ran = explore(tools, "--actions", "unplug", "--device", "/class/hwmon/hwmon0", script=TRUSTING)
+    must(ran.returncode == 1 and all(line.endswith(f" unplug {CHIP}") for _, line in found_in(ran)), f"a device by a link: {ran}")
     stored = f"read t < /sys{CHIP}/temp1_max || exit 0; [ $t = 80000 ] || kill -SEGV $$; echo 1 > /sys{CHIP}/temp1_max || :"
     ran = explore(tools, "--actions", "unplug", "--runs", "6", script=stored)
     must(ran.returncode == 0, f"what a run writes is undone after it: {ran}")
