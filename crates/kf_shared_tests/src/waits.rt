@@ -151,7 +151,8 @@ fn is_unused(hold: Hold) -> bool {
 }
 
 /// Has the lock as often as it can until the node is gone, and looks then whether the call of its
-/// self-removal has its reference again, twice under one lock. True if both looks find the same.
+/// self-removal has its reference, twice under one lock. True if the call does not get it back in between.
+/// (It may leave in between: that takes no lock.)
 pub(crate) fn same_under_the_lock<N: Naming, R: Wait + Clock>(
     rt: &R,
     tree: &SharedTree<N>,
@@ -162,10 +163,9 @@ pub(crate) fn same_under_the_lock<N: Naming, R: Wait + Clock>(
     for _ in 0..LOOKS {
         let editor = tree.edit(rt);
         if editor.state().stat(key).is_err() {
-            let first = is_unused(one);
+            let unused = is_unused(one);
             thread::sleep(rt, Duration::from_millis(1));
-            let second = is_unused(other);
-            return first == second;
+            return is_unused(other) || !unused;
         }
     }
     one.release();
