@@ -15,9 +15,9 @@ static inline const char *kt_strerror(int64_t number)
     case -EACCES:
         return "the mode of the file, or how it was opened, does not allow it";
     case -EAGAIN:
-        return "it has begun, and somebody is inside: call again when a callback has left";
+        return "somebody is inside (call again when a callback has left), or a look-up without the lock found nothing";
     case -EBADF:
-        return "no descriptor of a watch here";
+        return "it is not the descriptor of a watch of this tree";
     case -EBUSY:
         return "in use: a file is being hidden, a gate is open, a pass is inside, or others came between";
     case -EDEADLK:
@@ -27,29 +27,29 @@ static inline const char *kt_strerror(int64_t number)
     case -EINVAL:
         return "what lies behind the handle, the kind of node, a name, a path or a number does not fit the call";
     case -EIO:
-        return "an input or output failed, or the program made this file by other calls";
+        return "input or output failed, or the program did not make this file with kt_live.h";
     case -EISDIR:
         return "it is a directory";
     case -EMFILE:
-        return "the node has as many holds, or the gate has had as many passes, as there may be";
+        return "the node has as many holds as it can have, or the gate has had as many passes as it can have";
     case -ENAMETOOLONG:
         return "a name has more than 255 bytes";
     case -ENODEV:
-        return "the node is not live (not activated, hidden, or being removed), or the gate is shut";
+        return "it is being removed, hidden, or not yet activated, or the gate is shut";
     case -ENOENT:
-        return "no such node, or it is being removed";
+        return "there is no such node or path, or it is being removed";
     case -ENOMEM:
         return "no memory";
     case -ENOSPC:
         return "the tree has no free slot";
     case -ENOTDIR:
-        return "it is no directory";
+        return "it is not a directory";
     case -EOVERFLOW:
         return "the event number is at its end";
     case -ERANGE:
         return "the buffer is too small";
     case -ETIMEDOUT:
-        return "somebody was inside all that time";
+        return "somebody was still inside when the time was over";
     default:
         return number < 0 ? "an error that the library does not return" : "done";
     }
