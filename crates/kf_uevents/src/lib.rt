@@ -28,7 +28,7 @@ mod uevent;
 
 pub use devices::{activate_device, add_device, begin_device_removal};
 pub use laws::devices_report_once;
-pub use listener::Listener;
+pub use listener::{Listener, Look};
 pub use log::{Reading, UeventLog};
 pub use moving::rename_and_tell;
 pub use removing_devices::{notify_listeners, remove_device};

@@ -28,12 +28,25 @@ impl Model for Listener {
     ghost view = { λ s. s.next };
 }
 
+/// What a listener looks at: a list of events behind its lock. A test has another one, which adds an event
+/// between two steps of [`Listener::wait`].
+pub trait Look {
+    /// Locks the list for reading.
+    fn look<'a, R: Wait>(&'a self, rt: &R) -> RwLockReadGuard<'a, UeventLog>;
+}
+
+impl Look for RwLock<UeventLog> {
+    fn look<'a, R: Wait>(&'a self, rt: &R) -> RwLockReadGuard<'a, UeventLog> {
+        self.read(rt)
+    }
+}
+
 // Sleeps until an event has the number, and locks the list for reading. It takes the slot's number first, and
 // then looks at the list. So an event that is added after the look changes the number that it sleeps on, and
 // no wake is lost: `tests/models/wake.py` tries every order of these steps.
-fn wait_for<'a, R: Wait>(
+fn wait_for<'a, L: Look, R: Wait>(
     rt: &R,
-    log: &'a RwLock<UeventLog>,
+    log: &'a L,
     post: &mut Post,
     number: u64,
 ) -> RwLockReadGuard<'a, UeventLog>
@@ -41,7 +54,7 @@ fn wait_for<'a, R: Wait>(
 {
     for _ in rt.forever() {
         let seen = post.now();
-        let guard = log.read(rt);
+        let guard = log.look(rt);
         if number < guard.count() {
             return guard;
         }
@@ -82,10 +95,10 @@ impl Listener {
     /// has the tree's lock, and waits for the list's.
     ///
     /// Context: sleeps; takes the list's lock, which its caller must not have, and returns with it.
-    pub fn wait<'a, R: Wait>(
+    pub fn wait<'a, L: Look, R: Wait>(
         &mut self,
         rt: &R,
-        log: &'a RwLock<UeventLog>,
+        log: &'a L,
     ) -> RwLockReadGuard<'a, UeventLog>
         ensures some { self.new < told_count (read_guard_value result) }
         ensures same { self.new ≡ self.old }

@@ -47,7 +47,7 @@ fn are_asleep<R: Wait + Clock + CpuClock>(rt: &R) -> bool {
 }
 
 /// Adds one event, and raises the number on which the listener sleeps.
-fn adds<N: Naming, R: Wait>(
+pub(super) fn adds<N: Naming, R: Wait>(
     rt: &R,
     tree: &SharedTree<N>,
     log: &RwLock<UeventLog>,
