@@ -22,10 +22,11 @@ def degrees():
 def test_changes(fake_sys):
     fake_sys.set(f"{CHIP}/temp1_input", 91000)
     assert degrees() == 91
+    fake_sys.count(f"{CHIP}/temp1_input", 1000000)
 
 
 def test_is_whole_again():
-    assert degrees() == 42
+    assert [degrees() for _ in range(100)] == [42] * 100
 
 
 def test_fails(fake_sys):

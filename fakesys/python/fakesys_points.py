@@ -116,7 +116,7 @@ class Places:
     def __init__(self, description, devices=None):
         word = lambda path: escaped_path(unescaped_path(path))
         self.devices = {word(path) for path in devices or description.devices()}
-        self.files = {word(path) for path in description.files()}
+        self.files = {word(path) for path in description.files() if not devices or self.above(word(path))}
         self.of_link, self.of_list = collections.defaultdict(set), collections.defaultdict(set)
         for path in self.devices:
             self.of_list[os.path.dirname(path)].add(path)

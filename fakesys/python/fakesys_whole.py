@@ -2,6 +2,7 @@
 """Makes a tree whole again: as its description has it, whatever a test or a program has done to it."""
 import errno
 import os
+import re
 
 from fakesys import escaped_path, unescaped_path, write_lines
 
@@ -23,8 +24,12 @@ def make_whole(tree):
     write_all(tree, [f"show {escaped_path(path)}" for path in hidden])
     missing -= {path for path in hidden if os.path.lexists(tree.at + path)}
     write_all(tree, [" ".join(filter(None, it)) for it in words if it[0] in NODES and is_missing(it[1])])
-    write_all(tree, [f"{fault} {path} 0" for word, path, _ in words if word == "file" for fault in FAULTS])
-    write_all(tree, [first_text(path, rest) for word, path, rest in words if word == "file"])
+    files = [(path, rest) for word, path, rest in words if word == "file"]
+    write_all(tree, [f"{fault} {path} 0" for path, _ in files for fault in FAULTS])
+    write_all(tree, [first_text(path, rest) for path, rest in files])
+    # (a text that counts may have counted on a little since it was set)
+    numbers = [(path, rest) for path, rest in files if re.match(r"\s*[-+]?\d", rest[4:])]
+    write_all(tree, [line for path, rest in numbers for line in (f"count {path} 0/s", first_text(path, rest))])
     write_all(tree, [" ".join(it) for it in words if it[0] not in NODES])
 
 

@@ -139,6 +139,10 @@ def judged(tools):
     must(shown, f"the innermost call and the exception: {ran}")
     ran = explore(tools, "--actions", "unplug", "--device", "/class/hwmon/hwmon0", script=TRUSTING)
     must(ran.returncode == 1 and all(line.endswith(f" unplug {CHIP}") for _, line in found_in(ran)), f"a device by a link: {ran}")
+    both = "for it in a b; do read name < /sys/devices/$it/name || kill -SEGV $$; done"
+    two = tools.file("two.kf", "".join(TWO))
+    ran = tools.run("explore", "--actions", "EIO", "--device", "/devices/b", two, "--", "sh", "-c", both, timeout=PATIENCE)
+    must([line.split()[2] for _, line in found_in(ran)] == ["/devices/b/name"], f"files of a device only: {ran}")
     stored = f"read t < /sys{CHIP}/temp1_max || exit 0; [ $t = 80000 ] || kill -SEGV $$; echo 1 > /sys{CHIP}/temp1_max || :"
     ran = explore(tools, "--actions", "unplug", "--runs", "6", script=stored)
     must(ran.returncode == 0, f"what a run writes is undone after it: {ran}")
