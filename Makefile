@@ -1,7 +1,7 @@
 # SPDX-License-Identifier: MIT OR Apache-2.0
 # The program. To build it takes the Rattle kit with rt on the path, as ./kernfs_run --prove does.
 #
-#     make                                  proves every crate and builds the program, if that is not done
+#     make                                  proves the program's crates and builds it, if that is not done
 #     make help                             prints what there is: these lines, the programs in tools/, the tests
 #     make install DESTDIR=.. PREFIX=..     installs it with its manual page and examples, built first (PREFIX: /usr/local)
 #     make uninstall DESTDIR=.. PREFIX=..   takes that away

@@ -15,13 +15,14 @@
 //!     };
 //!     let device = editor.create(root, b"hwmon0", Node::Dir, false)?;
 //!     create_rows(&mut editor, device, None, &rows)?;
-//!     editor.activate(device)?; // now all files are live
+//!     editor.activate(device)?; // from here on paths lead to the files
+//!     drop(editor); // (what follows may take the lock)
 //!     let driver = Driver::new(rows);
 //!     let mut limit = opener.open(rt, tree, b"/hwmon0/temp1_max", Want::BOTH)?;
 //!     limit.write(rt, tree, &driver, b"85000\n")?;
 //!
-//! - The rows are the only list: `create_rows` makes the files of their attributes, all or none, and the row
-//!   at place `i` serves the file with the tag `i`. Nobody writes a tag.
+//! - The rows are the only list: `create_rows` makes the files of their attributes, all or none (unless
+//!   memory runs out), and the row at place `i` serves the file with the tag `i`. Nobody writes a tag.
 //! - Callbacks are a type with `Show` and `Store`. What only shows is in its row as `ReadOnly(..)`, what only
 //!   stores as `WriteOnly(..)`. `Number`, `Signed`, `Switch` and `Text` are ready to use.
 //! - `BinaryRow` is a binary attribute with its size. `Bytes` are only read, and a `Buffer` is written too;
@@ -29,14 +30,15 @@
 //! - `Driver` makes of the rows the callbacks that a file is read and written with; each group has its table
 //!   and its driver. `Lines` is a table for each of several lines, with tags by `LineTags`.
 //! - An `Opener` opens files by their paths without the tree's lock, one for each thread. It takes the lock
-//!   for names of more than 24 bytes, and for slots that have no words for look-ups. `open_path` always opens
-//!   under the lock. By its name in a directory `post_of` gives a file's post, and `notify` raises its
-//!   number.
+//!   if it finds nothing without it (as always with names of more than 24 bytes, and in slots that have no
+//!   words for look-ups), and for each refusal. `open_path` always opens under the lock. By its name in a
+//!   directory `post_of` gives a file's post, and `notify` raises its number.
 //! - `Notifying` is callbacks that notify when they stored; its `Notifier` gets the post once the file is
 //!   there. `fault_of` makes the fault of a store that was not read.
 //!
 //! A caller that makes a row shows that its mode lets somebody read exactly if the callbacks show, and write
-//! exactly if they take stores. `crates/use_driver` and `crates/use_gpio` are such drivers.
+//! exactly if they take stores. (For a `BinaryRow` it shows only the second.) `crates/use_driver` and
+//! `crates/use_gpio` are such drivers.
 //!
 //! | What a driver calls in the kernel | Here |
 //! |---|---|
@@ -55,7 +57,8 @@
 //! | `poll` | `WaitingFile::wait_changed` (`kf_files`) |
 //! | `kobject_uevent` | `activate_and_tell` and the like, `tell_change` (`kf_uevents`) |
 //! | a listener's netlink socket | `Listener` (`kf_uevents`) |
-//! | `device_add`, `device_del` | `Bus::plug_in`, `unplug_in` (`kf_device`) |
+//! | `device_add`, `device_del` | `add_device`, `remove_device` (`kf_uevents`) |
+//! | the same on a bus | `Bus::plug`, `unplug` (`kf_device`) |
 #![tactic(auto)]
 
 mod binary;
