@@ -19,9 +19,10 @@
  * points to. There is one exception: after -ETIMEDOUT and -EDEADLK the device is marked. Paths and names are C strings.
  *
  * Threads that end: if a thread is cancelled in a callback or ends there by pthread_exit(), or if a C++ exception
- * leaves the callback, the callback has ended like one that returns. Otherwise no call here is a cancellation point.
- * (Do not cancel asynchronously, and let no longjmp() leave a callback.) An open file is not closed when its thread
- * ends.
+ * leaves the callback, the callback has ended like one that returns. For exceptions this holds in C++, and in C that is
+ * compiled with -fexceptions: in other C code no exception may leave a callback. Otherwise no call here is a
+ * cancellation point. (Do not cancel asynchronously, and let no longjmp() leave a callback.) An open file is not closed
+ * when its thread ends.
  *
  * fork(): the child of a program with threads must not use the tree. Callbacks of the parent's other threads count as
  * inside for ever in the child, and one of those threads may have had the lock.
@@ -149,7 +150,8 @@ KT_MUST_USE KT_LIVE_CALL int32_t kt_live_publish_plugin(struct kt_live *live, co
  * A callback may unpublish its own device, or one above it (device_remove_file_self). Then it gets 1 when all callbacks
  * there have ended, except those that its thread runs. It still runs in the device's code: after the free() it must no
  * longer touch the device, and nobody may unload its code before it has returned (kt_live_publish_plugin() says when
- * that is). If several callbacks do so at once, one of them gets 1, when the others have returned.
+ * that is). If several callbacks do so at once, one of them gets 1, when the others have returned. A callback may try
+ * again after -ETIMEDOUT. If it returns instead, the call that gets 1 waits until it has.
  *
  * A device that was published below this one is out of the tree too, but it stays published: its own
  * kt_live_unpublish() says whether its memory may be freed.
@@ -212,7 +214,7 @@ KT_MUST_USE KT_LIVE_CALL int32_t kt_live_open(struct kt_live *live, const char *
 
 /* Reads an open file from an offset (pread). At offset 0, or before its first show, it runs the show; otherwise it goes
  * on with the text of its last show, also after the device is gone. The number of bytes, with a zero byte after them as
- * for kt_live_read(); what the show returned; -EACCES, -ENODEV, -EINVAL (in its own callback). */
+ * for kt_live_read(); what the show returned; -EACCES, -ENODEV, -EINVAL (in its own callback, if it would show). */
 KT_LIVE_CALL int64_t kt_live_pread(struct kt_live_file *file, uint64_t offset, void *out, size_t size);
 
 /* Writes to an open file: as kt_live_write(); -EACCES, -ENODEV, -EINVAL (in its own callback). */
@@ -277,7 +279,10 @@ KT_LIVE_CALL int32_t kt_live_inside(struct kt_live *live, const char *path, FILE
 
 /* From now on, a thread that has slept that many milliseconds in an unpublishing reports it, and again each time they
  * have passed: it calls the function with the lines of kt_live_inside() for its device, without the lock. If the
- * function is NULL, the lines go to standard error. 0 milliseconds end it. */
+ * function is NULL, the lines go to standard error. 0 milliseconds end it.
+ *
+ * The function must return: no exception, no longjmp(). It may make any call here, but not end its thread. One that was
+ * replaced may still run for a moment, with its old data: free these only once no unpublishing sleeps. */
 KT_LIVE_CALL void kt_live_warn(struct kt_live *live, unsigned milliseconds,
                                void (*function)(const char *text, void *data), void *data);
 

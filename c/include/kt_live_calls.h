@@ -27,7 +27,6 @@ static inline bool kt_live_is_mine(const struct kt_live_call *call)
 static inline void kt_live_mark(struct kt_live_call *call, char way)
 {
     call->release = NULL;
-    call->was_aside = false;
     __atomic_store_n(&call->way, way, __ATOMIC_RELAXED);
     __atomic_store_n(&call->since, kt_live_about_now(), __ATOMIC_RELAXED);
     __atomic_store_n(&call->thread, pthread_self(), __ATOMIC_RELAXED);
@@ -92,6 +91,16 @@ static inline int32_t kt_live_begin(struct kt_live *live, const char *path, char
     return answer;
 }
 
+/* Leaves a call, also one that has stepped aside, which takes its protection again for that. Under the lock. */
+static inline void kt_live_leave(struct kt_live_call *call)
+{
+    if (call->is_aside)
+        kt_restore(&call->file);
+    call->is_aside = false;
+    kt_leave(&call->file);
+    pthread_cond_broadcast(&call->live->lock.left);
+}
+
 /* Ends a callback, also if it does not return (pthread_cleanup_push()). Without the lock. */
 static inline void kt_live_end(void *data)
 {
@@ -99,8 +108,7 @@ static inline void kt_live_end(void *data)
     struct kt_live *live = call->live;
     kt_live_lock(live);
     kt_live_delist(call);
-    kt_leave(&call->file);
-    pthread_cond_broadcast(&live->lock.left);
+    kt_live_leave(call);
     kt_live_put_hold(live, call, true);
     kt_live_unlock(live);
     if (call->release)
@@ -279,15 +287,14 @@ static inline void kt_live_end_file(void *data)
     struct kt_live_call *call = &((struct kt_live_file *)data)->call;
     struct kt_lock *lock = &call->live->lock;
     kt_live_release *release = call->release;
-    if (!release && !call->was_aside) {
+    if (!release && !call->is_aside) {
         __atomic_store_n(&call->stack, (uintptr_t)0, __ATOMIC_RELEASE);
         (void)kt_leave_wake(&call->file, lock);
         return;
     }
     pthread_mutex_lock(&lock->mutex);
     __atomic_store_n(&call->stack, (uintptr_t)0, __ATOMIC_RELEASE);
-    kt_leave(&call->file);
-    pthread_cond_broadcast(&lock->left);
+    kt_live_leave(call);
     pthread_mutex_unlock(&lock->mutex);
     if (release)
         release(call->release_data);

@@ -5,12 +5,12 @@
 #ifndef KT_LIVE_INSIDE_H
 #define KT_LIVE_INSIDE_H
 
-/* Lines that grow. If there was no memory for one, `at` is NULL at the end. */
+/* Lines that grow. */
 struct kt_live_lines {
     char *at;
     size_t length;
     int32_t count; /* of callbacks */
-    bool is_short;
+    bool is_short; /* there was no memory for one of them, which is left out */
 };
 
 /* Adds a line: a path, what is there, and in which thread since when. */
@@ -61,7 +61,7 @@ static inline void kt_live_add_lines(struct kt_live *live, struct kt_key top, co
         if (!kt_live_stack(it) || !is_here)
             continue;
         snprintf(what, sizeof what, "a %s is inside%s", way == 'r' ? "show" : way == 'w' ? "store" : "function",
-                 it->is_aside ? " and steps aside" : "");
+                 it->is_aside ? " and has stepped aside" : "");
         name[0] = 0;
         kt_live_add_line(live, lines, it->key, what, kt_live_thread(it),
                          it->is_open_file ? name : kt_live_name(it->thread, name),

@@ -85,6 +85,7 @@ static inline int32_t kt_live_add(struct kt_live *live, const char *path, struct
         return answer;
     }
     it->nodes = 1;
+    it->above = kt_live_above(live, it->key);
     answer = kt_live_create_files(live, it);
     if (!answer)
         answer = kt_activate(&live->tree, it->key);
@@ -142,28 +143,40 @@ static inline bool kt_live_is_below(struct kt_live *live, struct kt_key key, str
     return false;
 }
 
-/* Breaks the protection of this thread's own callbacks at a node or below it: its removal would wait for them. */
+/* Breaks the protection of this thread's own callbacks at a node or below it: its removal would wait for them. They
+ * stay aside until they end: a call breaks its protection only once, and the next unpublishing must not wait for them
+ * either. */
 static inline void kt_live_step_aside(struct kt_live *live, struct kt_key top)
 {
     for (struct kt_live_call *it = live->calls; it; it = it->next)
-        if (kt_live_is_mine(it) && kt_live_is_below(live, it->key, top))
-            it->is_aside = it->was_aside = kt_break(&it->file) >= 0;
+        if (!it->is_aside && kt_live_is_mine(it) && kt_live_is_below(live, it->key, top))
+            it->is_aside = kt_break(&it->file) >= 0;
     pthread_cond_broadcast(&live->lock.left);
 }
 
-/* Takes it again. */
-static inline void kt_live_step_back(struct kt_live *live)
+/* Whether a callback is aside for an unpublishing in which its thread sleeps. */
+static inline bool kt_live_gives_way(struct kt_live *live, const struct kt_live_call *call)
 {
-    for (struct kt_live_call *it = live->calls; it; it = it->next)
-        if (it->is_aside && kt_live_is_mine(it))
-            it->is_aside = kt_restore(&it->file) != 0;
+    for (struct kt_live_sleep *it = live->sleeps; it; it = it->next)
+        if (pthread_equal(it->thread, kt_live_thread(call)) &&
+            kt_live_is_within(live, call->device, kt_live_find(live, it->key)))
+            return true;
+    return false;
 }
 
-/* Whether a callback of another thread is in a device's code. */
+/* Whether a callback may use a device: it is in its code; or it is in the code of one below, is aside, and goes on. */
+static inline bool kt_live_uses(struct kt_live *live, const struct kt_live_call *call,
+                                const struct kt_live_device *device)
+{
+    return call->device == device ||
+           (call->is_aside && kt_live_is_within(live, call->device, device) && !kt_live_gives_way(live, call));
+}
+
+/* Whether a callback of another thread may use a device. */
 static inline bool kt_live_is_used(struct kt_live *live, const struct kt_live_device *device)
 {
     for (struct kt_live_call *it = live->calls; it; it = it->next)
-        if (it->device == device && kt_live_stack(it) && !kt_live_is_mine(it))
+        if (kt_live_stack(it) && !kt_live_is_mine(it) && kt_live_uses(live, it, device))
             return true;
     return false;
 }
@@ -175,7 +188,7 @@ static inline bool kt_live_keeps(struct kt_live *live, const struct kt_live_call
     if (!kt_live_stack(call) || pthread_equal(kt_live_thread(call), sleep->thread))
         return false;
     return (!call->is_aside && kt_live_is_below(live, call->key, sleep->key)) ||
-           (sleep->device && call->device == sleep->device);
+           (sleep->device && kt_live_uses(live, call, sleep->device));
 }
 
 /* Whether a sleep waits for a callback whose thread sleeps, and so on, until it is this thread's: none of them ends. */
@@ -317,7 +330,6 @@ static inline int32_t kt_live_take_out(struct kt_live *live, struct kt_key key, 
         sleep->data = device->device;
         kt_live_forget(live, device, sleep);
     }
-    kt_live_step_back(live);
     (void)!kt_live_sweep(live);
     return answer ? answer : is_first;
 }

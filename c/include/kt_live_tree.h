@@ -9,6 +9,7 @@
 struct kt_live_device {
     struct kt_live_device *next; /* of those whose directories had the same slot */
     struct kt_key key;           /* its directory */
+    struct kt_key above;         /* the nearest device above it; 0, 0 if there is none */
     void *device;
     const struct kt_attribute *attributes;
     struct kt_key *files; /* of each attribute; 0, 0 if it has none */
@@ -42,8 +43,7 @@ struct kt_live_call {
     uint32_t age; /* of the tree, when the callback began */
     char way;     /* r: a show, w: a store, x: a function of kt_live_run() */
     bool is_open_file;
-    bool is_aside;  /* it has broken its protection */
-    bool was_aside; /* it did so since it began; only its own thread looks at this */
+    bool is_aside; /* it has broken its protection, until it ends. Its own thread writes this, under the lock */
 };
 
 /* An unpublishing that sleeps, on the stack of its thread. */
@@ -132,6 +132,25 @@ static inline struct kt_live_device *kt_live_find(struct kt_live *live, struct k
     while (found && found->key.generation != key.generation)
         found = found->next;
     return found;
+}
+
+/* The nearest device above a node, or 0, 0. */
+static inline struct kt_key kt_live_above(struct kt_live *live, struct kt_key key)
+{
+    struct kt_key none = {0, 0};
+    while (!kt_parent(&live->tree, key, &key))
+        if (kt_live_find(live, key))
+            return key;
+    return none;
+}
+
+/* Whether a device is another one or was published below it, also if their directories are out of the tree. */
+static inline bool kt_live_is_within(struct kt_live *live, const struct kt_live_device *device,
+                                     const struct kt_live_device *top)
+{
+    while (device && device != top)
+        device = kt_live_find(live, device->above);
+    return device != NULL;
 }
 
 /* The device that a file of the tree belongs to, and in `attribute` which one it is; NULL for a file that the program

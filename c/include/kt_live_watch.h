@@ -134,10 +134,8 @@ KT_LIVE_CALL int64_t kt_live_path(struct kt_live *live, struct kt_key key, char 
 {
     int64_t length;
     kt_live_lock(live);
-    length = kt_path(&live->tree, key, path, size);
+    length = kt_path(&live->tree, key, path, size ? size - 1 : 0); /* (no path is empty) */
     kt_live_unlock(live);
-    if (length >= 0 && (size_t)length == size)
-        return -ERANGE;
     if (length >= 0)
         path[length] = 0;
     return length;

@@ -82,6 +82,19 @@ static void try_reads(struct kt_key dir)
     TRY(kt_live_close(file), 0);
 }
 
+/* A path is written with its zero byte, or nothing is. */
+static void try_path(struct kt_key key, const char *path)
+{
+    size_t length = strlen(path);
+    for (size_t size = 0; size <= length + 2; size++) {
+        char text[] = "--------------------";
+        bool fits = size > length;
+        TRY(kt_live_path(live, key, text, size), fits ? (int64_t)length : -ERANGE);
+        TRY((int64_t)strspn(text, "-"), fits ? 0 : (int64_t)sizeof text - 1);
+        TRY(!fits || (!strcmp(text, path) && text[length + 1] == '-'), 1);
+    }
+}
+
 static void try_one(void)
 {
     struct device device = {.alive = ALIVE};
@@ -104,7 +117,9 @@ static void try_one(void)
     TRY(file == NULL, 1);
     TRY(kt_live_path(live, own, text, sizeof text), 6);
     TRY(strcmp(text, "/d/own"), 0);
-    TRY(kt_live_path(live, own, text, 6), -ERANGE);
+    try_path(own, "/d/own");
+    try_path(dir, "/d");
+    try_path((struct kt_key){0, 1}, "/");
     try_reads(dir);
     TRY(kt_live_path(live, own, text, sizeof text), -ENOENT);
     TRY(kt_live_publish(live, "/self", itself, 1, &device, &dir), 0);

@@ -5,7 +5,7 @@ import errno
 import threading
 import unittest
 
-from kernfs_live import Attribute, Gone, Key, KtError, Live
+from kernfs_live import SLICE, Attribute, Gone, Key, KtError, Live
 
 
 class Fan:
@@ -104,6 +104,35 @@ class Devices(unittest.TestCase):
         live.publish("/fan1", Fan(), {"close": Attribute(store=close)})
         self.assertEqual(live.write("/fan1/close", "1"), 1)
         self.assertEqual((seen, list(live.list())), ([True, None], ["fan0"]))
+
+    def test_self_removal_beside_another(self):
+        """A callback unpublishes its own device, while another one stays inside for longer than one sleep in C."""
+        live, seen = self.live, []
+
+        def removed(seconds):
+            inside, may_end = threading.Event(), threading.Event()
+
+            def slow(fan):
+                inside.set()
+                may_end.wait(60)
+                return "slow"
+
+            def close(fan, data):
+                inside.wait(60)
+                threading.Timer(3 * SLICE / 1000, may_end.set).start()
+                seen.append(live.unpublish(live.self(), seconds) is fan)
+
+            live.publish("/fan1", Fan(), {"own": Attribute(slow, close)})
+            reader = threading.Thread(target=live.read, args=("/fan1/own",))
+            closer = threading.Thread(target=live.write, args=("/fan1/own", "1"), daemon=True)
+            for it in (reader, closer):
+                it.start()
+            for it in (reader, closer):
+                it.join(20)
+
+        removed(None)
+        removed(10)
+        self.assertEqual(seen, [True, True])
 
     def test_nested_reads(self):
         live = self.live
