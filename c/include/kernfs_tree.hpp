@@ -19,17 +19,21 @@
  * - Calls on a tree are made by an `editor`, so they are never made without the lock. A thread that has an editor may
  *   enter and leave, and drop holds. If it waits (tree::remove_wait(), gate::shut_wait() and the like) or asks for a
  *   second editor, it would wait for itself: then std::logic_error is thrown.
+ * - A time limit below 0 is 0, and the largest one is some 49 days.
  * - A tree must outlive the calls that run in it. Its holds, files, gates and passes may outlive it. */
 #ifndef KERNFS_TREE_HPP
 #define KERNFS_TREE_HPP
 
+#include <algorithm>
 #include <atomic>
 #include <cassert>
 #include <chrono>
+#include <climits>
 #include <functional>
 #include <kernfs_tree.h>
 #include <memory>
 #include <mutex>
+#include <optional>
 #include <stdexcept>
 #include <string>
 #include <string_view>
@@ -56,6 +60,14 @@ inline std::int64_t must(std::int64_t result)
 
 using key = kt_key;
 using node_info = struct kt_node_info;
+
+namespace inner {
+/* A time limit for C. */
+inline unsigned limit_of(std::chrono::milliseconds limit) noexcept
+{
+    return static_cast<unsigned>(std::clamp<std::chrono::milliseconds::rep>(limit.count(), 0, UINT_MAX));
+}
+} // namespace inner
 
 /* Owns a handle, from kt_new() to kt_delete(). */
 class handle {
@@ -325,8 +337,7 @@ public:
     /* The same with a time limit. False if somebody is still inside: the gate stays shut, and it is called again. */
     bool shut_wait_for(std::chrono::milliseconds limit)
     {
-        auto shut =
-            kt_shut_wait_for(hold_.own_.get(), hold_.lock_->unowned(), static_cast<unsigned>(limit.count()));
+        auto shut = kt_shut_wait_for(hold_.own_.get(), hold_.lock_->unowned(), inner::limit_of(limit));
         return shut != -ETIMEDOUT && must(shut) == 0;
     }
 
@@ -474,11 +485,11 @@ public:
      * callback calls remove_self_wait() meanwhile, that may return true too, or instead: editor::claim() says which
      * thread frees.) */
     bool remove_wait(key of) { return must(kt_remove_wait(own_.get(), of, lock_->unowned())) == 1; }
-    /* The same with a time limit. False if somebody is still inside: everything stays marked, and it is called again. */
-    bool remove_wait_for(key of, std::chrono::milliseconds limit)
+    /* The same with a time limit. Empty if somebody is still inside: everything stays marked, and it is called again.
+     * Otherwise the node is out, and the value is what remove_wait() returns. */
+    std::optional<bool> remove_wait_for(key of, std::chrono::milliseconds limit)
     {
-        auto removed = kt_remove_wait_for(own_.get(), of, lock_->unowned(), static_cast<unsigned>(limit.count()));
-        return removed != -ETIMEDOUT && must(removed) >= 0;
+        return limited(kt_remove_wait_for(own_.get(), of, lock_->unowned(), inner::limit_of(limit)));
     }
     /* Removes the node of a gate and all below it, shuts the gate, and waits until nobody is inside. */
     bool remove_gated_wait(gate &of, key its)
@@ -486,11 +497,10 @@ public:
         return must(kt_remove_gated_wait(own_.get(), of.hold_.own_.get(), its, lock_->unowned())) == 1;
     }
     /* The same with a time limit, as remove_wait_for(). The gate stays shut. */
-    bool remove_gated_wait_for(gate &of, key its, std::chrono::milliseconds limit)
+    std::optional<bool> remove_gated_wait_for(gate &of, key its, std::chrono::milliseconds limit)
     {
-        auto removed = kt_remove_gated_wait_for(own_.get(), of.hold_.own_.get(), its, lock_->unowned(),
-                                                static_cast<unsigned>(limit.count()));
-        return removed != -ETIMEDOUT && must(removed) >= 0;
+        return limited(kt_remove_gated_wait_for(own_.get(), of.hold_.own_.get(), its, lock_->unowned(),
+                                                inner::limit_of(limit)));
     }
     /* Removes a call's node, or one above it, from inside. True for the first that does so. */
     bool remove_self_wait(call &inside, key of)
@@ -501,6 +511,12 @@ public:
     void unhide_wait(key of) { must(kt_unhide_wait(own_.get(), of, lock_->unowned())); }
 
 private:
+    static std::optional<bool> limited(std::int32_t removed)
+    {
+        if (removed == -ETIMEDOUT)
+            return std::nullopt;
+        return must(removed) == 1;
+    }
     std::shared_ptr<tree_lock> lock_;
     handle own_;
 };

@@ -16,9 +16,7 @@
 #ifndef KT_LIVE_HPP
 #define KT_LIVE_HPP
 
-#include <algorithm>
 #include <chrono>
-#include <climits>
 #include <cstdio>
 #include <cstring>
 #include <exception>
@@ -180,7 +178,9 @@ private:
 };
 
 /* The owner of a published object. Its destructor unpublishes the object, waits until no thread is in its code, and
- * deletes it, unless another call was first. A callback of the object must not destroy its owner: live::take_self(). */
+ * deletes it, unless another call was first. A callback of the object must not destroy its owner: live::take_self(). If
+ * the destructor runs in a callback of another object, and both callbacks would wait for each other (EDEADLK), the
+ * program ends, because the object can neither stay nor go. Such a callback calls take(). */
 template <class T> class published {
 public:
     published() = default;
@@ -194,31 +194,27 @@ public:
         object_ = other.object_;
         return *this;
     }
-    ~published() { take(); }
-    /* Unpublishes it. The object for the first call that does so, once no thread is in its code; else empty. Of a plain
-     * directory, whether it was the first. */
-    auto take() noexcept
+    ~published()
     {
-        bool is_first = live_ && inner::unpublish(std::exchange(live_, nullptr), key_);
-        if constexpr (std::is_void_v<T>)
-            return is_first;
-        else
-            return std::unique_ptr<T>(is_first ? object_ : nullptr);
+        take();
+        if (live_)
+            std::terminate();
     }
-    /* The same with a time limit. If somebody is still inside then, this returns nothing, and the object is marked and
-     * stays so: nobody can enter, this still owns it (its bool is true), and take_for() or take() goes on. */
-    auto take_for(std::chrono::milliseconds limit) noexcept
+    /* What a call that unpublishes returns: the object; of a plain directory and of a plug-in's object, true. */
+    using taken = std::conditional_t<std::is_void_v<T>, bool, std::unique_ptr<T>>;
+    /* Unpublishes it. The object for the first call that does so, once no thread is in its code; else empty, or false.
+     * In a callback of another object it may return nothing at once (EDEADLK): callbacks unpublish each other's object.
+     * Then the object is marked and stays so: nobody can enter, this still owns it (its bool is true), and take() goes
+     * on, after the callback has returned. */
+    taken take() noexcept
     {
-        auto most = std::clamp<std::chrono::milliseconds::rep>(limit.count(), 0, UINT_MAX);
-        std::int32_t result = !live_ ? 0 : inner::unpublished([&] {
-            return kt_live_unpublish_for(live_, key_, static_cast<unsigned>(most), nullptr);
-        });
-        if (result != -ETIMEDOUT && result != -EDEADLK)
-            live_ = nullptr;
-        if constexpr (std::is_void_v<T>)
-            return result == 1;
-        else
-            return std::unique_ptr<T>(result == 1 ? object_ : nullptr);
+        return ended([this] { return kt_live_unpublish(live_, key_); });
+    }
+    /* The same with a time limit. If somebody is still inside then, this returns nothing, as after EDEADLK, and
+     * take_for() or take() goes on. */
+    taken take_for(std::chrono::milliseconds limit) noexcept
+    {
+        return ended([this, limit] { return kt_live_unpublish_for(live_, key_, inner::limit_of(limit), nullptr); });
     }
     kt_key key() const noexcept { return key_; }
     explicit operator bool() const noexcept { return live_; }
@@ -226,6 +222,16 @@ public:
 private:
     friend class live;
     explicit published(T *object) : object_(object) {}
+    template <class Step> taken ended(Step &&step) noexcept
+    {
+        std::int32_t result = live_ ? inner::unpublished(step) : 0;
+        if (result != -ETIMEDOUT && result != -EDEADLK)
+            live_ = nullptr;
+        if constexpr (std::is_void_v<T>)
+            return result == 1;
+        else
+            return taken(result == 1 ? object_ : nullptr);
+    }
     kt_live *live_ = nullptr;
     kt_key key_{};
     T *object_ = nullptr;
@@ -281,7 +287,8 @@ public:
         return made;
     }
     /* In a callback of an object, which is `self`: unpublishes it. The first call gets the object, once no other thread
-     * is in its code, and may delete it. The code itself must stay mapped: this returns into it. */
+     * is in its code, and may delete it. The code itself must stay mapped: this returns into it. After EDEADLK it
+     * returns nothing, and the owner of the object still has it. */
     template <class T> std::unique_ptr<T> take_self(T *self)
     {
         return std::unique_ptr<T>(inner::unpublish(raw_, kt_live_self(raw_)) ? self : nullptr);
@@ -354,7 +361,7 @@ public:
     void warn(std::chrono::milliseconds after, std::function<void(const char *)> function = {})
     {
         warn_ = std::move(function);
-        kt_live_warn(raw_, static_cast<unsigned>(after.count()), warn_ ? run_warn : nullptr, this);
+        kt_live_warn(raw_, inner::limit_of(after), warn_ ? run_warn : nullptr, this);
     }
     kt_live *get() noexcept { return raw_; }
 

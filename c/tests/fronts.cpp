@@ -1,12 +1,15 @@
 /* SPDX-License-Identifier: MIT OR Apache-2.0 */
 /* The calls of kt_live.hpp beside publishing: open files, which thread is inside, unpublishing with a time limit, objects
- * of plug-ins, and functions that run on an object. Prints a line for each that is wrong. */
+ * of plug-ins, functions that run on an object, and callbacks that take each other's object. Prints a line for each
+ * that is wrong. */
 #include <atomic>
 #include <condition_variable>
 #include <iostream>
 #include <kt_live.hpp>
 #include <mutex>
+#include <sys/wait.h>
 #include <thread>
+#include <unistd.h>
 
 namespace {
 
@@ -129,6 +132,11 @@ void limits(kernfs::live &live)
     });
     while (!warned)
         check(!one.take_for(std::chrono::milliseconds(20)) && one && deleted == 0, "a time limit");
+    warned = 0;
+    live.warn(std::chrono::milliseconds((1LL << 32) + 1), [&](const char *) { ++warned; }); // some 49 days
+    check(!one.take_for(std::chrono::milliseconds(20)) && !warned, "a long time until a warning");
+    live.warn(std::chrono::milliseconds(-1));
+    check(!one.take_for(std::chrono::milliseconds(-1)) && one, "a time limit below 0");
     live.warn(std::chrono::milliseconds(0));
     check(!live.read("/fan/target"), "nobody can enter");
     door.open();
@@ -163,11 +171,70 @@ void plugins(kernfs::live &live)
     check(other.take() && released == 2 && deleted == 1, "released by its owner");
 }
 
+/* An object whose callback takes or destroys another one, once a callback is in both. */
+struct rival {
+    std::atomic<int> &inside, &deleted;
+    kernfs::published<rival> &other;
+    bool destroys;
+    rival(std::atomic<int> &in, std::atomic<int> &count, kernfs::published<rival> &owner, bool is_last)
+        : inside(in), deleted(count), other(owner), destroys(is_last) {}
+    rival(const rival &) = delete;
+    ~rival() { ++deleted; }
+    void end(std::string_view)
+    {
+        ++inside;
+        while (inside < 2)
+            std::this_thread::yield();
+        if (destroys)
+            other = {};
+        else
+            other.take();
+    }
+};
+const kernfs::attributes<rival> rivals = {kernfs::stores<&rival::end>("end")};
+
+/* Of two such objects one is deleted, and the owner of the other one still has it. */
+void circle(kernfs::live &live, bool destroys)
+{
+    std::atomic<int> inside{0}, deleted{0};
+    kernfs::published<rival> owners[2];
+    for (int i = 0; i < 2; i++)
+        owners[i] = live.publish(i ? "/b" : "/a",
+                                 std::make_unique<rival>(inside, deleted, owners[1 - i], destroys), rivals);
+    std::thread one([&] { check(live.write("/a/end", "1") == 1u, "the first callback of a circle"); });
+    check(live.write("/b/end", "1") == 1u, "the second callback of a circle");
+    one.join();
+    check(deleted == 1 && bool(owners[0]) != bool(owners[1]), "one of a circle is left");
+    kernfs::published<rival> &left = owners[0] ? owners[0] : owners[1];
+    check(!live.write(owners[0] ? "/a/end" : "/b/end", "1"), "nobody can enter what is left");
+    check(left.take() && !left, "what is left is taken outside of callbacks");
+    check(deleted == 2, "each of a circle is deleted once");
+}
+
+/* If an owner is destroyed there, the program ends: a child does, by its own function. */
+void circle_of_destructors()
+{
+    int status = 0;
+    pid_t child = fork();
+    if (!child) {
+        std::set_terminate([] { _exit(3); });
+        alarm(300);
+        kernfs::live live(64);
+        circle(live, true);
+        _exit(0);
+    }
+    check(waitpid(child, &status, 0) == child, "a child");
+    check(WIFEXITED(status) && WEXITSTATUS(status) == 3, "a circle of destructors");
+}
+
 } // namespace
 
 int main()
 {
+    alarm(300);
+    circle_of_destructors();
     kernfs::live live(64);
+    circle(live, false);
     files(live);
     runs(live);
     limits(live);

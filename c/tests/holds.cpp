@@ -136,11 +136,41 @@ void removal_under_load()
         auto call = hold.enter();
         expect("a removal with a limit", !tree.remove_wait_for(fan, std::chrono::milliseconds(20)));
         kernfs::call::broken aside(call);
-        expect("a broken call", tree.remove_wait_for(fan, std::chrono::seconds(60)));
+        expect("a broken call", tree.remove_wait_for(fan, std::chrono::seconds(60)) == true);
+        expect("it was out before", tree.remove_wait_for(fan, std::chrono::seconds(60)) == false);
     }
     one.join();
     other.join();
     expect("nobody enters again", !hold.enter());
+}
+
+/* Limits that are no unsigned number of milliseconds. */
+void odd_limits()
+{
+    std::chrono::milliseconds below(-1), large(1LL << 32);
+    kernfs::tree tree(8, 8);
+    auto edit = tree.edit();
+    auto file = edit.create_file(edit.root(), "hot", 0444, 0), other = edit.create_file(edit.root(), "f", 0444, 0);
+    auto hold = edit.hold(other);
+    kernfs::gate gate(edit.hold(file), 2);
+    edit.unlock();
+    auto pass = gate.pass(0);
+    auto call = hold.enter();
+    auto visit = pass.enter();
+    expect("a removal with a limit below 0", !tree.remove_wait_for(other, below));
+    expect("a shutting with a limit below 0", !gate.shut_wait_for(below));
+    expect("a gated removal with a limit below 0", !tree.remove_gated_wait_for(gate, file, below));
+    std::thread leaves([&] {
+        usleep(20000);
+        call.leave();
+        usleep(20000);
+        visit.leave();
+    });
+    expect("a removal with a large limit", tree.remove_wait_for(other, large) == true);
+    expect("a shutting with a large limit", gate.shut_wait_for(large));
+    expect("a gated removal with a large limit", tree.remove_gated_wait_for(gate, file, large) == true);
+    expect("a second one", tree.remove_gated_wait_for(gate, file, large) == false);
+    leaves.join();
 }
 
 void holds_of_two_trees()
@@ -278,6 +308,7 @@ int main()
     editors_and_waits();
     files_and_posts();
     removal_under_load();
+    odd_limits();
     holds_of_two_trees();
     gates_and_passes();
     visits_that_end();
