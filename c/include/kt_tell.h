@@ -31,9 +31,11 @@ static inline const char *kt_strerror(int64_t number)
     case -EISDIR:
         return "it is a directory";
     case -EMFILE:
-        return "the node has as many holds as it can have, or the gate has had as many passes as it can have";
+        return "there are as many holds of the node, passes of the gate or descriptors of the program as there can be";
     case -ENAMETOOLONG:
         return "a name has more than 255 bytes";
+    case -ENFILE:
+        return "the system has as many open files as it can have";
     case -ENODEV:
         return "it is being removed, hidden, or not yet activated, or the gate is shut";
     case -ENOENT:
@@ -102,10 +104,14 @@ static inline int32_t kt_dump_line(struct kt_handle *tree, const struct kt_child
     struct kt_node_info stat;
     struct kt_node_counts counts;
     struct kt_child to;
-    int64_t length;
+    int64_t length = 0;
     int32_t answer = kt_stat(tree, at->key, &stat);
     if (!answer)
         answer = kt_counts(tree, at->key, &counts);
+    if (!answer && stat.kind == KT_LINK)
+        length = kt_name(tree, stat.target, to.name, KT_NAME_MAX);
+    if (length < 0 && length != -ENOENT)
+        answer = (int32_t)length;
     if (answer)
         return answer;
     fprintf(out, "%*s%s", 2 * depth, "", at->name);
@@ -113,7 +119,7 @@ static inline int32_t kt_dump_line(struct kt_handle *tree, const struct kt_child
         fprintf(out, "/");
     else if (stat.kind == KT_FILE)
         fprintf(out, " 0%o tag %llu", (unsigned)stat.mode, (unsigned long long)stat.tag);
-    else if ((length = kt_name(tree, stat.target, to.name, KT_NAME_MAX)) >= 0)
+    else if (length >= 0)
         fprintf(out, " -> %.*s, slot %lu", (int)length, to.name, (unsigned long)stat.target.slot);
     else
         fprintf(out, " -> what is gone");

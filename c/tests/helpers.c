@@ -23,6 +23,8 @@ static void texts(void)
         lines += strchr(kt_strerror(it), '\n') != NULL;
     TRY(lines, 0);
     TRY(kt_strerror(-ELOOP) == kt_strerror(INT64_MIN), 1); /* which the library never returns */
+    TRY(kt_strerror(-ENFILE) == kt_strerror(INT64_MIN), 0); /* which kt_live_watch() may return, as -EMFILE */
+    TRY(strstr(kt_strerror(-EMFILE), "descriptors") != NULL, 1);
 }
 
 static void children(void)

@@ -87,6 +87,22 @@ static void list(struct kt_key at)
     }
 }
 
+/* Dumps the tree, again and again until no memory was refused: then each line is as always. */
+static void dump(void)
+{
+    static char lines[1 << 14];
+    int32_t answer = -ENOMEM;
+    while (answer == -ENOMEM) {
+        FILE *out = fmemopen(lines, sizeof lines, "w");
+        if (!out)
+            continue;
+        setvbuf(out, NULL, _IONBF, 0);
+        answer = kt_dump(&tree, root, out);
+        fclose(out);
+    }
+    printf("dumped: %d\n%s", answer, lines);
+}
+
 /* Removes its own directory; if memory was refused, nothing has changed, or the removal was completed. */
 static int64_t remove_self(struct kt_handle *call, void *data)
 {
@@ -200,6 +216,7 @@ int main(void)
     AGAIN(kt_parent(&tree, file, &key));
     AGAIN(kt_rename(&tree, file, root, long_name, 199));
     AGAIN(kt_compact(&tree));
+    dump();
     AGAIN(kt_new(&post.at));
     AGAIN(kt_event_open(&tree, file, &post));
     AGAIN(kt_notify(&post));
