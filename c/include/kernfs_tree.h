@@ -111,11 +111,11 @@
  * - malloc(), realloc() and free() belong to one allocator, which aligns to at least 8 bytes. No function is called in
  *   a signal handler, or between fork() and exec() in a program with threads.
  * - The processor has at least level x86-64-v2 (SSSE3 and SSE4.1 are used).
- * - If kt_enter() or kt_pass_enter() has returned -ENODEV, kt_gate() -ENODEV or -ENOMEM, or kt_leave(), kt_break(),
- *   kt_pass_leave(), kt_shut(), kt_clear() or kt_delete() 1, wake the threads that wait in a removal, a hiding or
- *   kt_shut_wait(). The _wake helpers do so; kt_delete() has none. (A removal needs a hold for a moment, so if a
- *   node has the maximum of holds, it waits until kt_clear() has released one.) A looker is a hold of the root, which
- *   nobody removes.
+ * - Wake the threads that wait in a removal, a hiding or kt_shut_wait() after -ENODEV of kt_enter(), kt_begin_read(),
+ *   kt_begin_write(), kt_pass_enter() or kt_gate(), and after -ENOMEM of kt_gate(). Wake them also after 1 of
+ *   kt_leave(), kt_break(), kt_pass_leave(), kt_shut(), kt_clear() or kt_delete(). The _wake helpers do so, and
+ *   kt_read() and kt_write(); kt_delete() has none. (A removal needs a hold for a moment, so if a node has the maximum
+ *   of holds, it waits until kt_clear() has released one.) A looker is a hold of the root, which nobody removes.
  * - After -EAGAIN of kt_hide(), call it again on that file until it returns 0, or call kt_unhide() or kt_remove():
  *   until then the tree cannot be freed. A callback that waits until its own file is hidden breaks its protection
  *   first. If two threads hide one file, the first kt_unhide() shows it for both, so they agree on who calls it;
@@ -230,8 +230,8 @@ KT_CALL(1) int32_t kt_new(void **at);
  * call of that callback. Returns 0, or 1: wake the threads that wait in a removal or a hiding. It returns 1 if one may
  * be waiting for the end of the call, and if the node had the maximum of holds until now. -EBUSY, and nothing is
  * freed: it is a tree with a file for which kt_hide() has returned -EAGAIN and not 0 since; call kt_hide(), kt_unhide()
- * or kt_remove() on that file until it returns 0. Or it is a gate, for which kt_shut() has not returned 0 or 1; or a
- * pass that is inside, which kt_pass_leave() ends.
+ * or kt_remove() on that file until it returns 0 or more. Or it is a gate, for which kt_shut() has not returned 0 or 1;
+ * or a pass that is inside, which kt_pass_leave() ends.
  *
  * The holds of a freed tree stay valid. They can enter a node that was live, or hidden (the tree shows hidden files
  * when it is freed). They can never enter a node that was marked for removal or was not activated. */
@@ -408,7 +408,9 @@ KT_CALL(1) int32_t kt_enter(struct kt_handle *hold);
  * a hiding. */
 KT_STEP(1) int32_t kt_leave(struct kt_handle *call);
 
-/* Inside the callback, before something that waits for it (kernfs_break_active_protection). 0, or 1 as kt_leave(). */
+/* Inside the callback, before something that waits for it (kernfs_break_active_protection). 0, or 1 as kt_leave().
+ * -EINVAL: there is no call, or it has broken its protection before. Each call does so once: not again after
+ * kt_restore(). */
 KT_STEP(1) int32_t kt_break(struct kt_handle *call);
 
 /* Takes the protection again, whatever became of the node (kernfs_unbreak_active_protection). 0. "Freeing
@@ -426,7 +428,7 @@ KT_CALL(1, 3) int32_t kt_gate(struct kt_handle *hold, uint32_t lanes, struct kt_
 /* Another pass of a pass's gate, behind a handle with nothing behind it, for another thread: by the lane of this
  * number, modulo the number of lanes. A pass does not keep the gate open, and may outlive it; the lanes' memory is freed
  * with the last pass. 0, and in this order: -EINVAL (something is behind the other handle, or there is no pass that is
- * outside), -EMFILE (the gate has had 2^32 passes), -ENOMEM. */
+ * outside), -EMFILE (the gate has had 2^32 - 1 passes), -ENOMEM. */
 KT_CALL(1, 3) int32_t kt_pass(struct kt_handle *pass, uint32_t lane, struct kt_handle *other);
 
 /* Before a callback (percpu_ref_tryget_live). 0: the pass is inside, and kt_shut() waits for it. -ENODEV: the gate is
@@ -457,7 +459,7 @@ KT_CALL(1, 2) int32_t kt_event(struct kt_handle *post, uint64_t *out);
  * returns 1. The program shows, passes the text to kt_shown(), which keeps 4,095 bytes of it, and calls kt_leave(). If
  * the show fails, it leaves without kt_shown(), and then there is no text. In all other cases kt_begin_read() returns 0
  * and needs no live node: the rest of a text can be read after the removal too. -EACCES (not opened for reading),
- * -ENODEV or -EINVAL as for kt_enter(). */
+ * -ENODEV (with the wake) or -EINVAL as for kt_enter(). */
 KT_CALL(1) int32_t kt_begin_read(struct kt_handle *file, uint64_t offset);
 
 /* In the call that kt_begin_read() began with 1: makes this the text of the file. 0; -EINVAL anywhere else. */
@@ -466,7 +468,8 @@ KT_STEP(1) KT_TEXT(2, 3) int32_t kt_shown(struct kt_handle *file, const void *te
 /* Copies the text from an offset, also after the removal. The number of bytes; -EINVAL if there is no text. */
 KT_CALL(1) KT_ROOM(3, 4) int64_t kt_copy(struct kt_handle *file, uint64_t offset, void *out, size_t size);
 
-/* Enters the node for a store. 0, -EACCES (not opened for writing), -ENODEV or -EINVAL as for kt_enter(). */
+/* Enters the node for a store. 0, -EACCES (not opened for writing), -ENODEV (with the wake) or -EINVAL as for
+ * kt_enter(). */
 KT_CALL(1) int32_t kt_begin_write(struct kt_handle *file);
 
 /* In a running call of the file: 1 if its event number differs from that of its last show, or if there was no show;

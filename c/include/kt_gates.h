@@ -8,11 +8,11 @@
  * call kt_remove_wait(), which does not use the gate. Each thread that goes inside has its own pass.
  *
  * Threads that end: if a thread is cancelled in a callback of kt_pass_run() or ends there by pthread_exit(), or if a C++
- * exception leaves the callback, the pass is left. Between kt_pass_enter_wake() and kt_pass_leave_wake() nothing leaves
- * it: a pass that stays inside keeps its gate from closing, and each removal of its node waiting, for ever. If a thread
- * is cancelled while it waits here, the lock is unlocked, and the gate stays shut and keeps its call of the node. Then
- * another thread calls kt_shut_wait() or kt_remove_gated_wait() again, which ends what was begun. kt_remove_wait() of
- * the node waits until one does. */
+ * exception leaves the callback, the pass is left. (kt_wait.h says in which code an exception may.) Between
+ * kt_pass_enter_wake() and kt_pass_leave_wake() nothing leaves it: a pass that stays inside keeps its gate from
+ * closing, and each removal of its node waiting, for ever. If a thread is cancelled while it waits here, the lock is
+ * unlocked, and the gate stays shut and keeps its call of the node. Then another thread calls kt_shut_wait() or
+ * kt_remove_gated_wait() again, which ends what was begun. kt_remove_wait() of the node waits until one does. */
 #include "kernfs_tree.h"
 #ifndef KT_GATES_H
 #define KT_GATES_H

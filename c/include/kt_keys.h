@@ -2,14 +2,15 @@
 /* kt_keys.h: reports keys of another tree, in programs that use kernfs_tree.h; kt_check.h includes this.
  *
  * Under AddressSanitizer and ThreadSanitizer a program is aborted with a message if it passes a key to a tree that has
- * not given it out. For this, each tree here begins with other generations than the trees before it: their first slots
- * are used and freed a few times, before kt_create_root() returns. So the keys of two trees differ, until their slots
- * were used again and again: a key that both trees have given out is not reported, and neither is a key of a slot
+ * not given it out. For this, each tree here begins with other generations than the seven trees before it: their first
+ * slots are used and freed a few times, before kt_create_root() returns. So the keys of two trees differ, until their
+ * slots were used again and again: a key that both trees have given out is not reported, and neither is a key of a slot
  * beyond the first KT_KEYS_FIRST that both trees have used.
  *
- * Nothing is reported of a tree that was made in code without a sanitizer, of a node that such code has created, or of
- * a key that no tree gave out. The table here belongs to the whole program: if a plug-in includes this too, link the
- * program with -rdynamic, as for kt_told.h. */
+ * Nothing is reported of a tree that was made in code without a sanitizer, or while 64 others existed, or of a key that
+ * no tree gave out. Nor of a node that code without a sanitizer has created, while the node exists: once it is gone,
+ * its key is reported if another tree gave out the same one. The table here belongs to the whole program: if a plug-in
+ * includes this too, link the program with -rdynamic, as for kt_told.h. */
 #include "kernfs_tree.h"
 #ifndef KT_KEYS_H
 #define KT_KEYS_H

@@ -272,9 +272,10 @@ KT_LIVE_CALL int64_t kt_live_path(struct kt_live *live, struct kt_key key, char 
  *
  *     /fan0/speed: a show is inside, thread 0x7f80c47d86c0 reader, 0.090 s
  *
- * With "/" also for those whose node is out of the tree. (The thread's name needs _GNU_SOURCE, and is left out for an
- * open file.) Nothing is written under the lock. The number of callbacks; -EINVAL (the path), -ENOENT, -ENOTDIR,
- * -ENOMEM. */
+ * With "/" also for those whose node is out of the tree. A line says "has stepped aside" of a callback that has
+ * unpublished its own device or one above, so that no removal waits for it. (The thread's name needs _GNU_SOURCE, and
+ * is left out for an open file.) Nothing is written under the lock. The number of callbacks; -EINVAL (the path),
+ * -ENOENT, -ENOTDIR, -ENOMEM. */
 KT_LIVE_CALL int32_t kt_live_inside(struct kt_live *live, const char *path, FILE *out);
 
 /* From now on, a thread that has slept that many milliseconds in an unpublishing reports it, and again each time they

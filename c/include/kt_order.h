@@ -8,8 +8,9 @@
  * It looks at kt_remove_wait(), kt_remove_self_wait(), kt_remove_gated_wait(), kt_hide_wait(), kt_live_unpublish() and
  * kt_shut_wait(), and not at waits with a time limit. A gate is such a lock too, which a pass that is inside has for
  * reading and kt_shut_wait() takes for writing. If one of them waits for a node or a gate that its own thread is inside,
- * the program is aborted with a message: it would wait for itself. If another thread leaves a call than the one that
- * entered it, nothing is reported about it. */
+ * the program is aborted with a message: it would wait for itself. (Not so kt_remove_self_wait() and
+ * kt_live_unpublish(), before which this thread's own calls step aside.) If another thread leaves a call than the one
+ * that entered it, nothing is reported about it. */
 #include "kernfs_tree.h"
 #ifndef KT_ORDER_H
 #define KT_ORDER_H

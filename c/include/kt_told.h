@@ -7,9 +7,9 @@
  * kt_enter() there, or a kt_pass_enter(). This is kept for each node: a race of the program between callbacks of two nodes is still reported,
  * even if another node was removed in between.
  *
- * If kt_rename() has moved a node, all nodes of the tree count as one. If a program has more handles than there is room
- * for here, all nodes of the program count as one. The table here belongs to the whole program: if a plug-in includes
- * this too, link the program with -rdynamic.
+ * If kt_rename() has moved a node, or a node more than 11 levels below the root is held, all nodes of the tree count as
+ * one. If a program has more handles than there is room for here, all nodes of the program count as one. The table here
+ * belongs to the whole program: if a plug-in includes this too, link the program with -rdynamic.
  */
 #include "kernfs_tree.h"
 #ifndef KT_TOLD_H

@@ -11,9 +11,10 @@
  * began stays begun: a node that was to be removed is marked, and another kt_remove_wait() ends it (kt_gates.h says what
  * ends the shutting of a gate). Only after kt_claim() cancelling is put off until the node is out. If a thread is
  * cancelled in a callback or ends there by pthread_exit(), or if a C++ exception leaves the callback, its call is left
- * as if it had returned. Do not cancel asynchronously, and let no longjmp() leave a callback. A thread that ends keeps
- * its holds: clear them before, since a hold keeps its slot from being reused, and a call that nobody leaves keeps each
- * removal waiting.
+ * as if it had returned. For exceptions this holds in C++, and in C that is compiled with -fexceptions: in other C code
+ * no exception may leave a callback. Do not cancel asynchronously, and let no longjmp() leave a callback. A thread that
+ * ends keeps its holds: clear them before, since a hold keeps its slot from being reused, and a call that nobody leaves
+ * keeps each removal waiting.
  *
  * fork(): the child of a program with threads must not use the tree. Calls of the parent's other threads are inside for
  * ever in the child, and one of those threads may have had the lock. */
@@ -224,9 +225,10 @@ static inline int32_t kt_remove_claimed(struct kt_handle *tree, struct kt_key ke
  * the node, 0 for each other one, or if the node was gone. 1 does not say that other callbacks there that broke their
  * protection have returned: see "Freeing what callbacks use" in kernfs_tree.h.
  *
- * A negative errno as for kt_claim(), also -ENOMEM, and then nothing has changed, so the same callback may try again;
- * or -EINVAL if the call is not running or is broken: then the node is marked, and kt_remove() removes it. -ENOENT only
- * for a key that this tree never gave out. */
+ * A negative errno as for kt_claim(), also -ENOMEM, and then nothing has changed, so the same callback may try again.
+ * -ENOENT only for a key that this tree never gave out. Or -EINVAL if the call is not running, is broken or was
+ * restored, as after an earlier call of this: then the node is marked and claimed, and kt_remove() removes it. If
+ * nobody had claimed it before, this caller frees what callbacks use, and no later call returns 1. */
 KT_CALL(1, 2, 4)
 static inline int32_t kt_remove_self_wait(struct kt_handle *tree, struct kt_handle *call, struct kt_key key,
                                           struct kt_lock *lock)
@@ -300,7 +302,7 @@ static inline int64_t kt_run(struct kt_handle *hold, struct kt_lock *lock, kt_ca
     return answer ? answer : out;
 }
 
-/* Shows into the page. Returns the number of bytes (more than its 4,096 are cut), or a negative errno. */
+/* Shows into the page. Returns the number of bytes (what is beyond 4,095 is cut), or a negative errno. */
 typedef int64_t kt_show(struct kt_handle *file, void *data, char *page);
 
 /* Takes 1 to 4,096 bytes. Returns the number of bytes that it took, or a negative errno. */

@@ -192,7 +192,7 @@ static void try_once(bool is_open)
     TRY(kt_live_close(file), 0);
 }
 
-/* Who gets the device waits for a callback that gave up and still runs in it. */
+/* The thread that gets the device waits for a callback that gave up and still runs in it. */
 static void try_outlast(void)
 {
     pthread_t thread, second_thread;
@@ -207,7 +207,7 @@ static void try_outlast(void)
     join(second_thread);
 }
 
-/* So does who gets the device above: the callback unpublished that one. */
+/* So does the thread that gets the device above, which that callback unpublished. */
 static void try_below(void)
 {
     pthread_t thread, second_thread;

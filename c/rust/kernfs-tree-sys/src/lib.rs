@@ -1,5 +1,6 @@
 // SPDX-License-Identifier: MIT OR Apache-2.0
-//! The functions of `kernfs_tree.h` and `kt_bind.h`, as they are in C. The headers say what each needs and returns.
+//! The functions of `kernfs_tree.h`, and those of `kt_bind.h` except `kt_bind_run()`, `kt_bind_read()`,
+//! `kt_bind_write()` and `kt_bind_poll()`, as they are in C. The headers say what each needs and returns.
 #![no_std]
 #![allow(non_camel_case_types)]
 
