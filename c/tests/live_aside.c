@@ -13,7 +13,7 @@ enum { SOON = 10, LONG = 60000 }; /* milliseconds */
 
 static struct kt_live *live;
 static struct kt_key key, other;
-static atomic_int is_inside, may_go, is_over, warnings, first, second, third;
+static atomic_int is_inside, may_go, is_over, warnings, said, first, second, third;
 
 /* The other callback. */
 static int64_t stay(void *device, const struct kt_attribute *attribute, char *page)
@@ -31,12 +31,26 @@ static void wait_for(atomic_int *it)
         sched_yield();
 }
 
+/* Whether a line says of a callback that it has stepped aside. */
+static bool is_said(void)
+{
+    char text[1024] = "";
+    FILE *out = tmpfile();
+    if (kt_live_inside(live, "/", out) >= 2) {
+        rewind(out);
+        text[fread(text, 1, sizeof text - 1, out)] = 0;
+    }
+    fclose(out);
+    return strstr(text, " is inside and has stepped aside, thread 0x");
+}
+
 /* Unpublishes the device too early, twice, and then again. */
 static void try_thrice(bool is_limited)
 {
     wait_for(&is_inside);
     atomic_store(&first, kt_live_unpublish_for(live, key, SOON, NULL));
     atomic_store(&second, kt_live_unpublish_for(live, key, SOON, NULL));
+    atomic_store(&said, is_said());
     atomic_store(&may_go, 1);
     atomic_store(&third, is_limited ? kt_live_unpublish_for(live, key, LONG, NULL) : kt_live_unpublish(live, key));
 }
@@ -152,6 +166,7 @@ static void try_path(const char *path)
         TRY(kt_live_write(live, path, "1", 1), 1);
     TRY(atomic_load(&first), -ETIMEDOUT);
     TRY(atomic_load(&second), -ETIMEDOUT);
+    TRY(atomic_load(&said), 1);
     TRY(atomic_load(&third), 1);
     TRY(kt_live_unpublish(live, key), -ENOENT);
     join(thread);
