@@ -30,9 +30,11 @@ static const char usage[] =
     "                           default; Linux 6.16), attributes (5.10), or nothing\n"
     "    -o clone_fd            use one descriptor of /dev/fuse for each thread\n";
 
+enum { THREADS_MAX = 100000 }; /* libfuse's limit */
+
 struct words {
-    char *slots_word, *threads_word, *keeping_word, *order_word, *description;
-    uint64_t slots, threads, order;
+    char *slots_word, *threads_word, *idle_word, *keeping_word, *order_word, *description;
+    uint64_t slots, threads, idle, order;
     enum keeping keeping;
     int only_check;
 };
@@ -43,6 +45,7 @@ static const struct fuse_opt known_words[] = {
     {"slots=%s", offsetof(struct words, slots_word), 0},
     {"keep=%s", offsetof(struct words, keeping_word), 0},
     {"max_threads=%s", offsetof(struct words, threads_word), 0},
+    {"max_idle_threads=%s", offsetof(struct words, idle_word), 0},
     {"--order %s", offsetof(struct words, order_word), 0},
     {"--order=%s", offsetof(struct words, order_word), 0},
     {"--check", offsetof(struct words, only_check), 1},
@@ -69,6 +72,14 @@ static bool read_count(const char *what, const char *word, uint64_t most, uint64
     return false;
 }
 
+static bool read_idle(const char *word, uint64_t *out)
+{
+    if (!word || read_number(word, THREADS_MAX, out))
+        return true;
+    fprintf(stderr, "fakesysfs: -o max_idle_threads must be 0 to %u, not %s\n", THREADS_MAX, word);
+    return false;
+}
+
 static bool read_keeping_word(const char *word, enum keeping *out)
 {
     if (!word || read_keeping(word, out))
@@ -88,10 +99,12 @@ static bool read_seed(const char *word, uint64_t *out)
 static bool read_words(struct fuse_args *args, struct words *words)
 {
     words->threads = 1024;
+    words->idle = 64;
     words->keeping = NAMES;
     return !fuse_opt_parse(args, words, known_words, take_word)
         && read_count("--slots", words->slots_word, KT_SLOTS_MAX, &words->slots)
-        && read_count("-o max_threads", words->threads_word, 100000, &words->threads)
+        && read_count("-o max_threads", words->threads_word, THREADS_MAX, &words->threads)
+        && read_idle(words->idle_word, &words->idle)
         && read_seed(words->order_word, &words->order)
         && read_keeping_word(words->keeping_word, &words->keeping);
 }
@@ -113,9 +126,8 @@ static int print_version(void)
 }
 
 /* Serves requests until the unmount or a signal. */
-static int loop(struct fuse_session *session, const struct fuse_cmdline_opts *options, unsigned threads)
+static int loop(struct fuse_session *session, const struct fuse_cmdline_opts *options, const struct words *words)
 {
-    unsigned idle = options->max_idle_threads < 1024 ? options->max_idle_threads : 64;
     if (options->singlethread)
         return fuse_session_loop(session);
 #if FUSE_VERSION >= FUSE_MAKE_VERSION(3, 12)
@@ -123,14 +135,14 @@ static int loop(struct fuse_session *session, const struct fuse_cmdline_opts *op
     if (!config)
         return -ENOMEM;
     fuse_loop_cfg_set_clone_fd(config, (unsigned)options->clone_fd);
-    fuse_loop_cfg_set_idle_threads(config, idle);
-    fuse_loop_cfg_set_max_threads(config, threads);
+    fuse_loop_cfg_set_idle_threads(config, (unsigned)words->idle);
+    fuse_loop_cfg_set_max_threads(config, (unsigned)words->threads);
     int result = fuse_session_loop_mt(session, config);
     fuse_loop_cfg_destroy(config);
     return result;
 #else
-    struct fuse_loop_config config = {.clone_fd = options->clone_fd, .max_idle_threads = idle};
-    (void)threads; /* (this version has no limit) */
+    struct fuse_loop_config config = {.clone_fd = options->clone_fd, .max_idle_threads = (unsigned)words->idle};
+    /* (this version has no limit of threads) */
     return fuse_session_loop_mt(session, &config);
 #endif
 }
@@ -147,7 +159,7 @@ static int serve(struct fuse_session *session, const struct fuse_cmdline_opts *o
             begin_keeping(session, words->keeping);
             begin_steps(session);
             begin_storms();
-            status = loop(session, options, (unsigned)words->threads) < 0; /* (the number of a signal is not an error) */
+            status = loop(session, options, words) < 0; /* (the number of a signal is not an error) */
             end_storms();
         }
         fuse_session_unmount(session);
@@ -192,6 +204,7 @@ int main(int count, char **list)
     free(words.description);
     free(words.slots_word);
     free(words.threads_word);
+    free(words.idle_word);
     free(words.keeping_word);
     free(words.order_word);
     return status;

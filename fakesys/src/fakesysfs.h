@@ -49,6 +49,7 @@ struct node {
     uint64_t lookups;  /* of the kernel, which knows the node until it has forgotten all of them */
     fuse_ino_t target; /* of a link */
     bool leads_in;     /* of a link: an unplug in progress removes it */
+    bool is_hiding;    /* of a file: a hide waits until no caller is inside */
     bool is_uevent;    /* of a file of this name: a write asks for an event, and keeps the text */
     atomic_uint late;  /* milliseconds before a show or store begins; of a directory, before a look-up */
     atomic_uint slow;  /* milliseconds inside each show and store */
@@ -277,6 +278,7 @@ struct control {
     char *part;
     size_t length;
     unsigned lines;
+    uint64_t writer; /* whose part it is, as the kernel numbers the owners of descriptors */
 };
 
 /* Runs the lines that are whole now, and returns what write(2) returns. end_control() runs a last line without

@@ -111,22 +111,26 @@ void fs_open(fuse_req_t req, fuse_ino_t number, struct fuse_file_info *info)
         close_open(it); /* no release will come: it is not open, or its caller is gone */
 }
 
-/* Called at each close(2) of a descriptor. */
+/* Called at each close(2) of a descriptor. A process that has inherited it, such as a command of a shell, may end while
+ * the writer is in the middle of a line. */
 void fs_flush(fuse_req_t req, fuse_ino_t number, struct fuse_file_info *info)
 {
     struct open *it = open_of(info);
     int error = 0;
     if (is_control(number)) {
         pthread_mutex_lock(&it->mutex);
-        error = end_control(&it->control);
+        if (it->control.writer == info->lock_owner)
+            error = end_control(&it->control);
         pthread_mutex_unlock(&it->mutex);
     }
     refuse(req, error);
 }
 
+/* Called after the last close(2). */
 void fs_release(fuse_req_t req, fuse_ino_t number, struct fuse_file_info *info)
 {
-    (void)number;
+    if (is_control(number))
+        end_control(&open_of(info)->control); /* a line whose writer did not close the last descriptor */
     close_open(open_of(info));
     refuse(req, 0);
 }
@@ -216,6 +220,7 @@ void fs_write(fuse_req_t req, fuse_ino_t number, const char *bytes, size_t size,
     struct open *it = open_of(info);
     step(WRITE, number, NULL, req);
     pthread_mutex_lock(&it->mutex);
+    it->control.writer = info->lock_owner;
     int64_t result = is_control(number) ? write_control(&it->control, bytes, size)
                                         : write_file(it, (size_t)offset, bytes, size);
     pthread_mutex_unlock(&it->mutex);

@@ -70,6 +70,18 @@ int unplug_node(struct kt_key key)
     return remove_from(dir, key);
 }
 
+/* Hides a file that somebody is inside. If a show came between, the wait would hide it again, so shows wait too. */
+static int hide_later(struct kt_key key)
+{
+    struct node *node = node_of(number_of(key));
+    node->is_hiding = true;
+    int error = wait_without_lock(kt_hide_wait, key);
+    if (node->number == number_of(key)) /* else it is gone, and its slot has another node */
+        node->is_hiding = false;
+    pthread_cond_broadcast(&lock.left);
+    return error;
+}
+
 int hide_node(struct kt_key key)
 {
     struct kt_node_info stat;
@@ -78,15 +90,14 @@ int hide_node(struct kt_key key)
     forget_node(key);
     int error = kt_hide(&tree, key);
     wake_pollers(number_of(key));
-    if (error == -EAGAIN)
-        error = wait_without_lock(kt_hide_wait, key);
-    return error;
+    return error == -EAGAIN ? hide_later(key) : error;
 }
 
 int show_node(struct kt_key key)
 {
+    const struct node *node = node_of(number_of(key));
     int error;
-    while ((error = kt_unhide(&tree, key)) == -EAGAIN)
+    while ((node->number == number_of(key) && node->is_hiding) || (error = kt_unhide(&tree, key)) == -EAGAIN)
         pthread_cond_wait(&lock.left, &lock.mutex);
     return error;
 }

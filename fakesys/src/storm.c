@@ -77,12 +77,21 @@ static int compare(const void *left, const void *right)
     return one->part != other->part ? (int)one->part - (int)other->part : strcmp(one->path, other->path);
 }
 
+/* Whether a node is a link whose target is gone. It cannot be created again. */
+static bool leads_nowhere(const struct node *node)
+{
+    struct kt_node_info stat;
+    return S_ISLNK(node->mode) && kt_stat(&tree, key_of(node->target), &stat);
+}
+
 static int save_all(struct storm *storm, struct kt_key top)
 {
     struct node *node;
     int error = 0;
     for (uint32_t slot = 0; !error && (node = next_node(&slot, 0));) {
         bool is_link = S_ISLNK(node->mode);
+        if (leads_nowhere(node))
+            continue;
         if (is_below(key_of(node->number), top))
             error = save(storm, node, is_link ? LINK_INSIDE : INSIDE);
         else if (is_link && is_below(key_of(node->target), top))
@@ -93,16 +102,19 @@ static int save_all(struct storm *storm, struct kt_key top)
     return error;
 }
 
-static void go(struct storm *storm)
+/* Removes the node, if it is there. Returns 0 or why it was refused. */
+static int go(struct storm *storm)
 {
     struct kt_key key;
+    int error = 0;
     for (size_t at = 0; at < storm->count; at++)
         if (!find_node(storm->saved[at].path, &key))
             save_text(&storm->saved[at], node_of(number_of(key)));
     if (!find_node(storm->path, &key))
-        unplug_node(key);
+        error = unplug_node(key);
     storm->is_away = true;
     count_change();
+    return error;
 }
 
 /* Creates one node as it was. Only nodes outside the subtree are live at once. */
@@ -127,22 +139,32 @@ static int make_again(struct saved *saved)
     return S_ISREG(node->mode) ? set_text(node, saved->node.text, saved->node.length) : 0;
 }
 
-/* All nodes become live at once. A node that cannot be created now (the target of a link is away too) stays
- * away this time. */
-static void come(struct storm *storm)
+/* Notes the first error. It is none that a link stays away because its target or its directory is away too, or because
+ * there is another node now. */
+static void note(int *first, const struct saved *saved, int error)
+{
+    bool is_allowed = S_ISLNK(saved->node.mode) && (error == -ENOENT || error == -EEXIST);
+    if (!*first && !is_allowed)
+        *first = error;
+}
+
+/* All nodes become live at once. A node that cannot be created now stays away this time. Returns 0 or the first error. */
+static int come(struct storm *storm)
 {
     struct kt_key top;
     size_t at = 0;
-    if (make_again(&storm->saved[at]))
-        return;
+    int error = make_again(&storm->saved[at]);
+    if (error)
+        return error;
     storm->is_away = false;
     for (at = 1; at < storm->count && storm->saved[at].part != LINK_OUTSIDE; at++)
-        make_again(&storm->saved[at]);
+        note(&error, &storm->saved[at], make_again(&storm->saved[at]));
     if (!find_node(storm->path, &top))
-        (void)!kt_activate(&tree, top);
+        note(&error, storm->saved, kt_activate(&tree, top));
     for (; at < storm->count; at++)
-        make_again(&storm->saved[at]);
+        note(&error, &storm->saved[at], make_again(&storm->saved[at]));
     count_change();
+    return error;
 }
 
 /* ---- the moments ---- */
@@ -233,12 +255,15 @@ static int save_storm(const char *path, uint64_t seed, struct storm **out)
 int replug_node(const char *path)
 {
     struct storm *storm = NULL;
+    struct kt_key half;
     int error = save_storm(path, 0, &storm);
     if (error)
         return error;
-    go(storm);
-    come(storm);
-    error = storm->is_away ? -ENOSPC : 0;
+    error = go(storm);
+    if (!error)
+        error = come(storm);
+    if (error && !storm->is_away && !find_node(path, &half))
+        unplug_node(half); /* half a device would refuse each later plug */
     free_storm(storm);
     return error;
 }

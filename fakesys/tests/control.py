@@ -88,6 +88,20 @@ def first_wrong_line(mount):
     must(sorted(os.listdir(mount.path("/"))) == ["class", "devices"], "all nodes are gone")
 
 
+def inherited(mount):
+    """A line that is written in parts runs once it is whole, also if a command that has inherited the file ends meanwhile;
+    a last line without a newline runs when its writer ends."""
+    control, speed = mount.path("/.control"), mount.path("/devices/fan0/speed")
+    for script, text in (
+        ("printf 'set /devices/fan0/speed '; env true; echo 5", b"5\n"),
+        ("(printf 'set /devices/fan0/speed 6'); cat '%s' >&2; echo; echo mkdir /a" % speed, b"6\n"),
+        ("printf 'set /devices/fan0/speed '; env true; printf 7", b"7\n"),
+    ):
+        ran = subprocess.run(["sh", "-ec", f"{{ {script}; }} > '{control}'"], capture_output=True, check=False)
+        must(ran.returncode == 0 and ran.stderr in (b"", text), f"{script}: {ran}")
+        must(read_path(speed) == text, f"{script}: {read_path(speed)}")
+
+
 def wrong_lines(mount):
     """No line that is refused changes anything."""
 

@@ -2,6 +2,21 @@
 """Wrong variants of the daemon (mutants), and the check that must find each."""
 from tree import polled, removal
 
+# A right variant, in which a hide that waits wakes late.
+LATE_HIDE = """
+static inline int32_t late_hide(struct kt_handle *of, struct kt_key key, struct kt_lock *owner)
+{
+    for (;;) {
+        usleep(300000);
+        pthread_mutex_lock(&owner->mutex);
+        int32_t result = kt_hide(of, key);
+        pthread_mutex_unlock(&owner->mutex);
+        if (result != -EAGAIN)
+            return result;
+    }
+}
+#define kt_hide_wait late_hide"""
+
 # What a variant replaces, and the check that must find it.
 FAULTS = {
     "a removal that does not wait": (removal, """

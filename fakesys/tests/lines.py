@@ -196,6 +196,20 @@ def hidden(mount):
     mount.done(f"hide {path}", "rm /devices/fan0")
 
 
+def shown_last(mount):
+    """Of a hide and a show that wait for the same reader the later one wins, even if the hide wakes last."""
+    path = "/devices/fan0/speed"
+    mount.done(f"slow {path} 2500")
+    reader = Beside(read_path, mount.path(path))
+    time.sleep(0.6)
+    hider = Beside(mount.tell, f"hide {path}")
+    must(eventually(lambda: not os.path.exists(mount.path(path))), "it is hidden while hide waits")
+    shower = Beside(mount.tell, f"show {path}")
+    must((reader.given(), hider.given(), shower.given()) == (b"1200\n", "ok", "ok"), "all are done")
+    must(os.path.exists(mount.path(path)), "it is hidden again")
+    mount.done(f"slow {path} 0", f"hide {path}", f"show {path}")
+
+
 def unplugged(mount):
     """An unplug removes a device and the links that lead into it, and no other links; a removal keeps the links."""
     mount.done(

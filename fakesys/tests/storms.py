@@ -2,7 +2,7 @@
 """The daemon's own storms: a node that disappears and comes back by itself."""
 import errno, os, time
 
-from mounted import error_of, eventually, must, read_path
+from mounted import Beside, error_of, eventually, must, read_path
 
 
 def is_unplugged(mount, path):
@@ -64,6 +64,28 @@ def storms(mount):
     time.sleep(0.2)
     must(os.path.isdir(mount.path("/devices/fan0")), "it stays")
     return f"{refused} times met"
+
+
+def replugged(mount):
+    """A replug that cannot create the whole device again fails, says why, and leaves nothing of it; a link that leads
+    nowhere is left out."""
+    mount.done("mkdir /devices/a", "mkdir /devices/a/b", "file /devices/a/b/c 444 x", "slow /devices/a/b/c 2500")
+    reader = Beside(read_path, mount.path("/devices/a/b/c"))
+    time.sleep(0.6)
+    replugger = Beside(mount.tell, "replug /devices/a/b")
+    must(eventually(lambda: not os.path.exists(mount.path("/devices/a/b"))), "it is gone while replug waits")
+    remover = Beside(mount.tell, "rm /devices/a")
+    given = reader.given(), replugger.given(), remover.given()
+    must(given == (b"x\n", "err NoEntry 2", "ok"), f"its directory is removed meanwhile: {given}")
+    mount.done("file /target 444", "link /devices/fan0/loose /target", "rm /target", "replug /devices/fan0")
+    must(sorted(os.listdir(mount.path("/devices/fan0"))) == ["limit", "speed"], "without the link")
+    with mount.opened("/devices/fan0/limit"), mount.opened("/devices/fan0/speed"):
+        count = 0
+        while mount.tell(f"mkdir /fill{count}") == "ok":
+            count += 1
+        must(mount.ask("replug /devices/fan0") == ["err NoSpace 28"], "open files keep their slots")
+        must(not os.path.lexists(mount.path("/devices/fan0")), "half a device")
+    must(eventually(lambda: mount.tell("mkdir /devices/fan0") == "ok"), "another one can be created")
 
 
 def storms_end(mount):

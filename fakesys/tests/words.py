@@ -3,7 +3,7 @@
 import errno, os, re, subprocess
 from pathlib import Path
 
-from mounted import FAN, PATIENCE, TOP, Mount, Wrong, error_of, must, read_path
+from mounted import FAN, PATIENCE, TOP, Beside, Mount, Wrong, error_of, eventually, must, read_path
 
 
 def run(program, *words, given=None):
@@ -22,7 +22,8 @@ def asked(program, folder):
         [], [script], [at], ["--slots", "0", script, at], ["--slots", "5x", script, at], ["--slots", "", script, at],
         ["--slots=-1", script, at], ["--slots", "1048577", script, at], ["--slots"], ["--frob", script, at],
         [script, at, "-x"], [script, at, "-o", "frob"], [script, at, at], [script, folder / "nowhere"],
-        ["--check", script, at], ["--check"], ["-o", "max_threads=0", script, at], ["--order", "-1", script, at],
+        ["--check", script, at], ["--check"], ["-o", "max_threads=0", script, at],
+        ["-o", "max_idle_threads=x", script, at], ["-o", "max_idle_threads=100001", script, at], ["--order", "-1", script, at],
         ["--order", "x", script, at], ["--order"],
     ):
         ran = run(program, *words)
@@ -99,6 +100,17 @@ def started(program, folder):
         must(
             more == ["ok"] * 801 + ["err NoSpace 28"] * 99, "slots for as many again: %d" % more.count("ok"),
         )
+
+
+def idle(program, folder):
+    """Threads that have no work are kept: at most 64, or as many as the option says."""
+    for words, most in ((), 64), (("-o", "max_idle_threads=1024"), 1024):
+        with Mount(program, folder, FAN, options=words) as mount:
+            count = lambda at=f"/proc/{mount.process.pid}/task": len(os.listdir(at))
+            mount.done("slow /devices/fan0/speed 1500")
+            readers = [Beside(read_path, mount.path("/devices/fan0/speed")) for _ in range(120)]
+            must([it.given() for it in readers] == [b"1200\n"] * 120, "each has its text")
+            must(count() > 100 if most > 64 else eventually(lambda: count() < 80), f"{words}: {count()} threads")
 
 
 def refused(program, folder):
