@@ -26,7 +26,16 @@ import time
 from pathlib import Path
 
 # (other programs import these from here)
-from fakesys_tree import Description, Tree, escaped_path, escaped_text, printable, unescaped_path, write_lines  # noqa: F401
+from fakesys_tree import (  # noqa: F401
+    Description,
+    Tree,
+    escaped_path,
+    escaped_text,
+    printable,
+    text_of_file,
+    unescaped_path,
+    write_lines,
+)
 
 VERSION = "0.4.0"
 LIBC = ctypes.CDLL(None, use_errno=True)
@@ -111,7 +120,7 @@ def cover_sys(tree):
     for entry in entries:
         if entry not in tops:
             print(f"fakesys: {printable(entry.name)} is no directory, so it is left out", file=sys.stderr)
-    if entries and not tops:
+    if not tops:
         raise OSError("the description has no directory that could cover one of /sys (-a covers all of /sys)")
     if not os.path.isdir("/sys"):
         raise OSError("this machine has no directory /sys")

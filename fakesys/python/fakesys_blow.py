@@ -4,9 +4,8 @@ import contextlib
 import threading
 import time
 
-from fakesys_schedule import is_in
+from fakesys_schedule import FAULTS, faults_of, is_in
 
-FAULTS = ("fail", "late", "slow")
 LATE = 1  # seconds: a line that comes later than this is reported
 
 
@@ -14,7 +13,7 @@ class Changes:
     """What lines changed in a tree: the devices that are absent, and the faults and delays of its nodes."""
 
     def __init__(self, description):
-        self.described = {(word, path): rest for word, path, rest in description.words if word in FAULTS}
+        self.described = faults_of(description)
         self.gone, self.faults = [], {}
 
     def copy(self):
@@ -127,7 +126,7 @@ class Blow(threading.Thread):
             path, _, value = rest.partition(" ")
             if word == "unplug":
                 gone.append(path)
-            elif word == "fail" and value != "0":
+            elif word == "fail" and value != changes.described.get((word, path), "0"):
                 failed[path] = value
         return list(dict.fromkeys(gone)), failed
 

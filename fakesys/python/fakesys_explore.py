@@ -1,9 +1,9 @@
 # SPDX-License-Identifier: MIT OR Apache-2.0
 """fakesys explore [OPTION ..] DESCRIPTION -- COMMAND ..
 
-Looks for bugs in a program that reads sysfs, by trying each of its steps in turn. It runs COMMAND once to see which steps
-it makes: look-ups, opens, reads, listings .. Then it runs COMMAND once for each step, and right before that step a device
-disappears or is replaced, or a file fails or has another text. A program that is killed by a signal, panics, hangs, or
+Looks for bugs in a program that reads sysfs, by trying each of its steps in turn. It runs COMMAND three times to see
+which steps it makes: look-ups, opens, reads, listings .. Then it runs COMMAND once for each step, and right before that
+step a device disappears or is replaced, or a file fails or has another text. A program that is killed by a signal, panics, hangs, or
 exits with a status that no calm run had, is a find. Each find has one line `at ..` that repeats it. The same command
 finds the same in a second run. The status is 0 if nothing is found, 1 if something is; 2 for a usage error; 125 if
 nothing can be mounted. Ctrl-C ends the search, which then reports what it found (130 if that is nothing)."""
@@ -17,7 +17,7 @@ import fakesys
 import fakesys_library
 import fakesys_report
 import fakesys_run
-from fakesys_points import ACTIONS, ERRORS, Places, Step, in_order, points_of, shape_of
+from fakesys_points import ACTIONS, ERRORS, HEALED, Places, Step, in_order, points_of, shape_of
 from fakesys_rooms import Rooms
 from fakesys_verdict import Ending, Verdict
 
@@ -25,7 +25,7 @@ FOUND = 1
 INTERRUPTED = 128 + signal.SIGINT
 RUNS = 1000
 MOST_TRIED = 3  # points of a find that are repeated until one does it again
-MOST_CALM = 60  # calm runs that look for a status
+MOST_CALM = 60  # calm runs that look for a status, besides those with a point's own change
 TIMES_CALM = 10  # a run may take this many times as long as the slowest calm one, so that a busy machine makes no find
 
 
@@ -80,14 +80,14 @@ class Search:
         if not self.verdict.is_fault(ending):
             return False
         if ending.is_plain():
-            for lines in self.calm_changes(point):
-                self.learn(lines)
+            for at, lines in enumerate(self.calm_changes(point)):
+                self.learn(lines, is_own=not at)
                 if not self.verdict.is_fault(ending):
                     return False
         return True
 
-    def learn(self, lines):
-        if lines in self.calm_lines or len(self.calm_lines) >= MOST_CALM:
+    def learn(self, lines, is_own):
+        if lines in self.calm_lines or len(self.calm_lines) >= MOST_CALM and not is_own:
             return
         self.calm_lines.add(lines)
         happened = self.rooms.run(lines, fresh=True)
@@ -144,7 +144,7 @@ class Search:
         ending = Ending(happened["code"], happened["said"])
         if not self.is_fault(point, ending):
             return None
-        key = (shape_of(ending.what()), shape_of(ending.headline()), *point.group())
+        key = (ending.kind(), shape_of(ending.headline()), *point.group())
         find = self.found.setdefault(key, Find(ending, key))
         find.points.append(point)
         if not find.is_sure() and len(find.points) <= MOST_TRIED:
@@ -162,7 +162,7 @@ class Search:
         if "refused" in happened:
             return False
         ending = Ending(happened["code"], happened["said"])
-        return self.verdict.is_fault(ending) and shape_of(ending.what()) == find.key[0]
+        return self.verdict.is_fault(ending) and ending.kind() == find.key[0]
 
     # ---- one line ----
 
@@ -191,7 +191,6 @@ def try_at(options, search):
 def explore(options, parser):
     """`fakesys explore`: its exit status."""
     check(options, parser)
-    options.text = fakesys_run.read_text(options.description)
     known = read_known(options.known)
     with fakesys_report.Files(options) as files:
         rooms = Rooms(options)
@@ -211,15 +210,22 @@ def explore(options, parser):
 
 
 def check(options, parser):
+    """Checks the options, and reads the description: once, since it may be a pipe."""
     if not options.command:
         parser.error("COMMAND is missing")
     if options.runs < 0 or options.jobs < 1 or options.times < 1 or not options.seconds > 0 or not options.hang > 0:
         parser.error("a number is out of range")
     if options.at and not options.at.startswith("at "):
         parser.error("--at: the line must begin with `at `")
+    if options.at and (options.json or options.junit):
+        parser.error("--at only prints how the runs end: it writes no --json and no --junit")
+    for line in options.at.split(" ", 4)[-1].split(";;") if options.at else ():
+        if line.split(" ")[0] not in HEALED:
+            parser.error(f"--at: no line {line.split(' ')[0]}, since nothing makes the tree whole again after it")
     if options.poke and not options.network:
         options.jobs = 1  # the daemons would share their ports
-    description = fakesys.Description(fakesys_run.read_text(options.description))
+    options.text = fakesys_run.read_text(options.description)
+    description = fakesys.Description(options.text)
     options.device = [description.real(path) for path in options.device or ()] or None
     for path in set(options.device or ()) - description.directories():
         raise fakesys_run.Refused(f"--device: the description has no directory {path}")
@@ -252,7 +258,7 @@ def add_words(words):
     add("--runs", type=int, default=RUNS, help=f"try at most this many points (default {RUNS}; 0: all)")
     add("-j", "--jobs", type=int, default=1, help="trees side by side (default 1)")
     add("--poke", metavar="LINE", help="COMMAND is a daemon, and this shell line queries it: what is tried is one query")
-    add("--device", action="append", metavar="PATH", help="a directory that disappears (default: each device)")
+    add("--device", action="append", metavar="PATH", help="a directory that disappears, or whose files fail (default: each device)")
     add("--actions", type=actions_of, default=ACTIONS, metavar="NAME,..", help=f"of {','.join(ACTIONS)} (default: all)")
     add("--hang", type=float, default=10, help="seconds that a run may take (default 10; at least ten times a calm run)")
     add("--calm", type=float, default=10, help="seconds until a daemon's first query must succeed (default 10)")

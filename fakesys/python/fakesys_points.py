@@ -9,12 +9,13 @@ import os
 import re
 import typing
 
-from fakesys import escaped_path, unescaped_path
+from fakesys import escaped_path, text_of_file, unescaped_path
 
 ERRORS = {"EIO": 5, "ENODEV": 19, "EBUSY": 16, "EINVAL": 22}
 TEXTS = {"empty": "\\c", "word": "zebra", "huge": "99999999999999999999", "bytes": "\\xff\\xfeA\\n\\c"}
 DEVICES = ("unplug", "replug")
 ACTIONS = (*DEVICES, *ERRORS, *TEXTS)
+HEALED = (*DEVICES, "fail", "late", "slow", "set", "hide", "notify")  # lines after which a tree can be made whole
 WALKS = ("lookup", "stat", "readlink")  # how the kernel goes along a path
 
 
@@ -203,16 +204,15 @@ class Healing:
     """The lines that make a tree whole again after what a line changed."""
 
     def __init__(self, description):
-        self.texts, self.faults = {}, {}
+        self.texts, self.faults = {}, {}  # of each path; of each word of a line, and its path
         for word, path, rest in description.words:
             path = escaped_path(unescaped_path(path))
             if word == "file":
-                text = rest[4:].replace("\\", "\\\\")
-                self.texts[path] = f"set {path} {text or chr(92) + 'c'}"
+                self.texts[path] = f"set {path} {text_of_file(rest) or chr(92) + 'c'}"
             elif word == "set":
                 self.texts[path] = f"set {path} {rest}"
-            elif word == "fail":
-                self.faults[path] = rest
+            elif word in ("fail", "late", "slow"):
+                self.faults[word, path] = rest
 
     def after(self, line):
         """The lines after a line, which may be an `at` line. A line that changes no node needs none."""
@@ -223,8 +223,10 @@ class Healing:
         path = rest.split(" ", 1)[0]
         if word in DEVICES:
             return [f"plug {path}"]
-        if word == "fail":
-            return [f"fail {path} {self.faults.get(path, 0)}"]
+        if word in ("fail", "late", "slow"):
+            return [f"{word} {path} {self.faults.get((word, path), 0)}"]
+        if word == "hide":
+            return [f"show {path}"]
         return self.written([path]) if word == "set" else []
 
     def written(self, paths):

@@ -14,6 +14,7 @@ from fakesys_verdict import Ending
 
 OF_THIS_THREAD = 0x20000000  # __WNOTHREAD
 POKERS = 2
+HANG = 10  # seconds that a run may take
 MOST = 1 << 20  # bytes of output that are looked at: the last ones
 QUIET = {"stdin": subprocess.DEVNULL, "stdout": subprocess.DEVNULL, "stderr": subprocess.DEVNULL}
 

@@ -81,7 +81,10 @@ class Report:
         for find in self.finds:
             if len(find.points) > 1:
                 print(f"{len(find.points)} points end like this one: {find.line()}")
-        if missed := sum(not happened.get("is_reached") for _, happened in self.tried):
+        refused = [happened["refused"] for _, happened in self.tried if "refused" in happened]
+        if refused:
+            print(f"{len(refused)} points could not be tried: {readable(refused[0].splitlines()[0])}")
+        if missed := sum(not happened.get("is_reached", True) for _, happened in self.tried):
             print(f"in {missed} runs the program did not make the step")
         if left := len(self.points) - len(self.tried):
             print(f"{left} points were not tried: --runs or --seconds sets the limit")

@@ -29,6 +29,7 @@ class Program:
     def __init__(self, options, tree_daemon):
         self.options, self.tree_daemon, self.process, self.seen = options, tree_daemon, None, 0
         self.patience = options.hang  # seconds
+        self.ready = None  # seconds from a daemon's start to its first reply, once there was one
 
     def start(self):
         self.output = os.memfd_create("output")
@@ -80,7 +81,8 @@ class Program:
     def begin(self):
         """Starts the daemon, and waits until a query succeeds."""
         self.start()
-        until = time.monotonic() + self.options.calm
+        start = time.monotonic()
+        until = start + self.options.calm
         while (asked := self.ask()) and time.monotonic() < until and self.wait(0.05) is None:
             pass
         if self.process.returncode is not None:
@@ -88,6 +90,7 @@ class Program:
             raise fakesys_run.Refused(f"the daemon ends before a query: status {self.process.returncode}\n{words}")
         if asked:
             raise fakesys_run.Refused(f"--poke: it fails though nothing is wrong: status {asked}")
+        self.ready = max(self.ready or 0, time.monotonic() - start)
         self.said()
 
     def ask(self):
@@ -143,7 +146,7 @@ class Room:
 
     def run(self, job):
         """Gives the lines of a job, and runs the command. Returns what happened as a dictionary. A daemon goes on from job to
-        job; with `restart` it starts anew, with `fresh` it even starts after the lines."""
+        job; with `restart` it starts anew, with `fresh` it even starts after the lines, and ends after the job."""
         lines = job["lines"]
         if job.get("fresh") or job.get("restart"):
             self.program.end()
@@ -155,7 +158,15 @@ class Room:
         except OSError as error:
             self.heal(lines)
             return {"refused": error.strerror or str(error)}
-        return self.run_under(lines, job)
+        except fakesys_run.Refused as problem:
+            if self.program.ready is None:
+                raise  # it has never started here
+            self.program.end()
+            return {"refused": str(problem)}
+        happened = self.run_under(lines, job)
+        if job.get("fresh"):
+            self.program.end()
+        return happened
 
     def run_under(self, lines, job):
         self.tree.give(self.trace_line)
@@ -163,7 +174,7 @@ class Room:
         heal, start = lambda: self.heal(lines), time.monotonic()
         if self.options.poke and not self.program.process:
             self.program.start()
-            self.program.wait(SHORTLY)
+            self.program.wait(SHORTLY + 3 * (self.program.ready or 0))  # (it may never reply, since devices are absent)
         code, said = (self.program.poke if self.options.poke else self.program.run)(heal)
         seconds = time.monotonic() - start
         self.tree.give("trace off")

@@ -6,6 +6,7 @@ import fakesys_run
 
 ERRORS = (5, 6, 11, 16, 19, 22, 61, 95, 110)  # what drivers return: EIO, ENXIO, EAGAIN, EBUSY, ENODEV ..
 KINDS = ("plug", "fail", "late", "slow", "notify")
+FAULTS = ("fail", "late", "slow")
 MOST_FAULTS = 8  # at a time: with more, a reader sees nothing else
 PAUSE = 100  # milliseconds between two turns of replayed lines
 MASK = (1 << 64) - 1
@@ -31,6 +32,11 @@ def is_in(path, top):
     return path == top or path.startswith(top + "/")
 
 
+def faults_of(description):
+    """The faults and delays that a description has itself."""
+    return {(word, path): rest for word, path, rest in description.words if word in FAULTS}
+
+
 class Schedule:
     """The lines that follow from a description, the devices, the kinds of lines, the rate and a seed."""
 
@@ -42,6 +48,7 @@ class Schedule:
         for path in set(self.devices) - description.directories():
             raise fakesys_run.Refused(f"--device: the description has no directory {path}")
         self.gone, self.faults, self.stay = [], {}, 2000
+        self.described = faults_of(description)
         self.files = [path for path in description.files() if any(is_in(path, top) for top in self.devices)]
         lists = {os.path.dirname(path) for path, target in description.links() if target in self.devices}
         self.folders = sorted(path for path in lists if path.startswith(("/class/", "/bus/")))
@@ -57,14 +64,14 @@ class Schedule:
 
     def line(self):
         here = [path for path in self.devices if not self.is_gone(path)]
-        choice, self.stay = self.lot.below(100), 2000
+        choice, self.stay = self.lot.below(100 if set(self.kinds) - {"plug"} else 65), 2000
         if "plug" in self.kinds and self.gone and (choice < 55 or not here):
             return self.plug(self.lot.one_of(self.gone))
         if "plug" in self.kinds and choice < 65:
             return self.unplug(self.lot.one_of(here))
         if len(self.faults) >= MOST_FAULTS or self.faults and choice < 72:
             return self.heal(self.lot.one_of(sorted(self.faults)))
-        return self.fault(self.lot.one_of([kind for kind in self.kinds if kind != "plug"] or ["notify"]))
+        return self.fault(self.lot.one_of([kind for kind in self.kinds if kind != "plug"]))
 
     def is_gone(self, path):
         return any(is_in(path, top) for top in self.gone)
@@ -81,7 +88,7 @@ class Schedule:
 
     def heal(self, fault):
         del self.faults[fault]
-        return " ".join([*fault, "0"])
+        return " ".join([*fault, self.described.get(fault, "0")])
 
     def late_list(self, path):
         """Delays each look-up in a list of devices, mostly by some milliseconds."""

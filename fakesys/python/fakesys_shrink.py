@@ -12,19 +12,20 @@ import re
 import signal
 import subprocess
 import sys
-import tempfile
 import time
 
 import fakesys
 import fakesys_library
 import fakesys_run
 from fakesys_points import shape_of
+from fakesys_reader import HANG
 
 FEWEST = 8  # lines that are tried first: the last ones
 LONG = 3  # the first tries take this much longer, so that a rare fault comes again
 HALF = 0.5  # of the time is for the exploration
 RUNS = 400  # points that it tries
 CALM = 0.3  # seconds without a storm before each try
+FIRST_CALM = 1  # .. and before the first ones
 REPLAYED = 3  # seconds of each try
 ON_DEATH_OF_PARENT = 1
 FOUND, NOT_AGAIN = 1, 1
@@ -75,18 +76,28 @@ class Shrinker:
 
     def __init__(self, options, words):
         self.options, self.words, self.tries, self.what = options, words, 0, None
+        self.limit = HANG if options.hang is None else options.hang
         self.until = time.monotonic() + options.time * HALF
-        self.folder = tempfile.TemporaryDirectory(prefix="fakesys-shrink-")
-        self.part = os.path.join(self.folder.name, "part.tl")
+        self.part = memory_file("part")
 
     def is_time(self):
         return time.monotonic() < self.until
 
-    def end_of(self, lines, seconds):
+    def times(self):
+        """The times of a try, as options of a storm. A run hangs only after a limit, so a try in which one may hang takes
+        longer by that. If it is known that the command hangs, and so that it is no daemon, its first run is timed too."""
+        seconds, limit = self.options.seconds, self.limit
+        if not self.what:
+            return ["--time", str(max(LONG * seconds, seconds + limit)), "--calm", str(FIRST_CALM)]
+        if not self.what.startswith("hangs"):
+            return ["--time", str(seconds), "--calm", str(CALM)]
+        return ["--time", str(seconds + limit), "--calm", str(CALM), "--hang", str(limit)]
+
+    def end_of(self, lines):
         """How the command ends while these lines are replayed, in words; None if nothing happens."""
         self.tries += 1
         write(lines, self.part)
-        words = ["storm", "--replay", self.part, "--time", str(seconds), "--calm", str(CALM), *self.words]
+        words = ["storm", "--replay", self.part, *self.words, *self.times()]
         with fakesys_again([*words, self.options.description, "--", *self.options.command]) as storm:
             said = storm.stdout.read()
         if storm.returncode not in (0, FOUND):
@@ -97,13 +108,13 @@ class Shrinker:
 
     def fails(self, lines):
         """Whether the command fails in the same way under these lines."""
-        return bool(lines) and self.what == alike(self.end_of(lines, self.options.seconds))
+        return bool(lines) and self.what == alike(self.end_of(lines))
 
     def shrink(self, lines):
         """Fewer lines under which the command fails, or None if it does not fail again."""
         count = FEWEST
         while True:
-            found = self.end_of(lines[-count:], LONG * self.options.seconds)
+            found = self.end_of(lines[-count:])
             if found or count >= len(lines) or not self.is_time():
                 break
             count *= 2
@@ -122,7 +133,7 @@ class Shrinker:
 
 def alike(end):
     """How a command ended, without what differs from run to run."""
-    return end and shape_of(end)
+    return end if not end or end.startswith("status ") else shape_of(end)
 
 
 def timeline(lines):
@@ -132,6 +143,11 @@ def timeline(lines):
 def write(lines, name):
     with open(name, "w", encoding="utf-8", errors="surrogateescape") as file:
         file.writelines(timeline(lines))
+
+
+def memory_file(name):
+    """The path of a file that ends with this process, even if a signal ends it."""
+    return f"/proc/{os.readlink('/proc/self')}/fd/{os.memfd_create(name)}"
 
 
 def fakesys_again(words, **more):
@@ -166,7 +182,7 @@ def explored(options, words, lines, seconds):
     devices = devices_in(lines, fakesys.Description(options.text))
     if seconds <= 0:
         return False
-    limits = ["--seconds", f"{seconds:.0f}", "--runs", str(RUNS)]
+    limits = ["--seconds", f"{max(seconds, 0.1):.1f}", "--runs", str(RUNS)]
     named = [word for device in devices for word in ("--device", device)]
     words = ["explore", *limits, *named, *words, options.description, "--", *options.command]
     with fakesys_again(words, stdout=None, stderr=None) as exploration:
@@ -234,16 +250,15 @@ def lines_of(name):
 def storm_and_shrink(options, words):
     """`fakesys storm --shrink SECONDS`: runs the storm with the words that are given, and shrinks what it finds. Returns the
     storm's exit status."""
-    with tempfile.TemporaryDirectory(prefix="fakesys-shrink-") as folder:
-        kept = options.output or os.path.join(folder, "kept.tl")
-        with fakesys_again(["storm", "-o", kept, *words], stdout=None, stderr=None) as storm:
-            status = storm.wait()
-        lines = lines_of(kept) if status == FOUND else None
-        if lines:
-            print(f"fakesys storm: shrinking {len(lines)} lines for up to {options.shrink:g} s", flush=True)
-            given = argparse.Namespace(**{**vars(options), "time": options.shrink, "seconds": REPLAYED})
-            left = shrink_and_explore(given, lines) or ()
-            print("".join(f"    {line}" for line in timeline(left)), end="")
+    kept = options.output or memory_file("kept")
+    with fakesys_again(["storm", "-o", kept, *words], stdout=None, stderr=None) as storm:
+        status = storm.wait()
+    lines = lines_of(kept) if status == FOUND else None
+    if lines:
+        print(f"fakesys storm: shrinking {len(lines)} lines for up to {options.shrink:g} s", flush=True)
+        given = argparse.Namespace(**{**vars(options), "time": options.shrink, "seconds": REPLAYED})
+        left = shrink_and_explore(given, lines) or ()
+        print("".join(f"    {line}" for line in timeline(left)), end="")
     return status
 
 

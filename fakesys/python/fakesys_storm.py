@@ -20,14 +20,13 @@ import fakesys_run
 import fakesys_shrink
 from fakesys_blow import Blow, changed
 from fakesys_points import ERRORS, Trace, shape_of
-from fakesys_reader import Lost, Poke, Reader
+from fakesys_reader import HANG, Lost, Poke, Reader
 from fakesys_schedule import KINDS, Schedule, repeated
 from fakesys_verdict import Ending, Verdict
 
 FOUND = 1
 LONGEST = 2e6  # seconds: poll(2) has a limit in milliseconds
-HANG = 10
-LEARNING = 30  # seconds for the calm runs that show whether a status is deliberate
+LEARNING = 30, 20  # seconds, and runs, for the calm runs that show whether a status is deliberate: the longer of both
 SHOWN = 12  # lines of a report
 
 
@@ -86,10 +85,16 @@ class Storm:
             if self.reader.process.returncode is None:
                 continue
             ending, self.reader.process = self.reader.ending(), None
+            self.be_patient(time.monotonic() - self.reader.began)
             if self.verdict.is_fault(ending) and not self.is_deliberate(ending, moment):
                 return ending
             if time.monotonic() > until:
                 return None
+
+    def be_patient(self, seconds):
+        """Gives a calm run twice as long as a run has just taken. (The end of a daemon shows no such time.)"""
+        if not self.poke:
+            self.calm_seconds = max(self.calm_seconds, min(self.limit or LONGEST, 2 * seconds + 1))
 
     def last_fault(self):
         """The fault that a command which still runs has printed, or None."""
@@ -108,7 +113,7 @@ class Storm:
         that were absent or failed in this run, or with files failing that the command reads."""
         if not ending.is_plain():
             return False
-        until = time.monotonic() + LEARNING
+        until = time.monotonic() + max(LEARNING[0], LEARNING[1] * self.calm_seconds)
         with self.blow.paused():
             reads = [path for kind, path, _ in self.steps if kind == "read"]
             for lines in conditions(*self.blow.since(moment), list(dict.fromkeys(reads))):
@@ -265,7 +270,7 @@ def add_words(words):
     words.add_argument(
         "--kinds", type=kinds_of, default=KINDS, metavar="KIND,..", help=f"kinds of lines: {','.join(KINDS)} (default: all)"
     )
-    words.add_argument("--rate", type=int, default=100, help="lines per second (default 100)")
+    words.add_argument("--rate", type=int, default=100, help="lines per second, 1 to 1000 (default 100)")
     words.add_argument("-o", "--output", metavar="FILE", help="write the lines with their times to FILE")
     words.add_argument(
         "--replay", metavar="FILE", help="use the lines of FILE, again and again, instead of those of a seed"

@@ -6,6 +6,7 @@ import os
 import re
 
 MOST_LINKS = 40  # on the way to a node, as in the kernel
+MOST_TEXT = 4095  # bytes: what is longer is cut in a `file` line, and refused in a `set` line
 MOST_LINES = 50  # in one write: the kernel may split a long one anywhere
 # Words of lines: whose path is followed through links, and of whose path only the directory is.
 FOLLOWED = ("set", "fail", "late", "slow", "count", "hide", "show", "notify", "unplug", "replug", "change", "filesystem")
@@ -26,6 +27,11 @@ def escaped_text(data):
     """Bytes as the text of a `set` line, with the escapes of printf's %b. The file gets no newline after them."""
     escape = lambda found: b"\\n" if found[0] == b"\n" else b"\\x%02x" % found[0][0]
     return re.sub(rb"[^ -\[\]-~]", escape, data).decode() + "\\c"
+
+
+def text_of_file(rest):
+    """What follows a path in a `file` line, as what follows it in a `set` line. There no byte is an escape, here some are."""
+    return os.fsdecode(os.fsencode(rest[4:])[:MOST_TEXT]).replace("\\", "\\\\")
 
 
 def printable(text):
@@ -177,17 +183,29 @@ class Tree:
         elif word in FOLLOWED:
             path = self.real(unescaped_path(path))
         elif word in FOLLOWED_ABOVE:
-            path = f"{self.real(unescaped_path(folder))}/{name}"
+            path = f"{self.real(unescaped_path(folder)).rstrip('/')}/{name}"
         return f"{word} {path}{blank}{more}"
 
     def give_plug(self, path):
-        left = self.description.making(path)
+        lines = left = self.description.making(path)
         while left:
             left, error = write_lines(self.control, left)
+            if isinstance(error, FileExistsError) and self.remove_loose(left[0]):
+                continue
             if error and not (left[0].startswith("link ") and isinstance(error, (FileNotFoundError, FileExistsError))):
+                if len(left) < len(lines):  # half a device would refuse each later plug
+                    write_lines(self.control, [f"unplug {path}"])
                 raise OSError(error.errno, f"{os.strerror(error.errno)}: {left[0]}")
             left = left[1:]  # the target or the directory of such a link may be gone too
         self.tell("add", self.description.uevents(path) if self.send else ())
+
+    def remove_loose(self, line):
+        """Removes the link that a line makes if it is there and leads nowhere, since its target is gone. Returns whether it
+        did so."""
+        word, path, *_ = line.split(" ")
+        at = self.at + unescaped_path(path)
+        is_loose = word == "link" and os.path.islink(at) and not os.path.exists(at)
+        return is_loose and not write_lines(self.control, [f"rm {path}"])[1]
 
     def give_unplug(self, path):
         known = self.description.uevents(path) if self.send else []

@@ -7,6 +7,8 @@ fail for good. So a status of a calm run is deliberate: the program noticed what
 import re
 import signal
 
+from fakesys_points import shape_of
+
 # A shell ends with 128 + N if signal N killed its command. These are the signals of a crash.
 CRASHES = (
     signal.SIGILL,
@@ -66,6 +68,10 @@ class Ending:
         if number is not None:
             return f"killed by {name_of(number)}"
         return self.panic() or f"status {self.code}"
+
+    def kind(self):
+        """The same, without the numbers that differ from run to run. A status is none of these."""
+        return self.what() if self.is_plain() else shape_of(self.what())
 
     def telling(self):
         """The most notable lines of its output: from the first notable one on, or the last ones."""

@@ -4,7 +4,7 @@ import errno
 import os
 import re
 
-from fakesys import escaped_path, unescaped_path, write_lines
+from fakesys import escaped_path, text_of_file, unescaped_path, write_lines
 
 NODES = ("mkdir", "file", "link")
 FAULTS = ("fail", "late", "slow")
@@ -15,6 +15,7 @@ def make_whole(tree):
     words = tree.description.words
     made = {unescaped_path(path): word for word, path, _ in words if word in NODES}
     there = nodes_of(tree)
+    there -= remove_loose(tree, {path for path in there if made.get(path) == "link"})
     remove_new(tree, there, made)
     if plug(tree, made.keys() - there):
         there = nodes_of(tree)
@@ -34,8 +35,8 @@ def make_whole(tree):
 
 
 def first_text(path, rest):
-    """The line that sets the text of a `file` line again. There no byte of it is an escape, here some are."""
-    return f"set {path} " + rest[4:].replace("\\", r"\\")
+    """The line that sets the text of a `file` line again."""
+    return f"set {path} {text_of_file(rest)}"
 
 
 def nodes_of(tree):
@@ -58,6 +59,13 @@ def scan(folder):
 def remove_new(tree, there, made):
     new = {path for path in there if path not in made}
     write_all(tree, [f"rm {escaped_path(path)}" for path in sorted(new) if os.path.dirname(path) not in new])
+
+
+def remove_loose(tree, links):
+    """Removes the links that lead nowhere, so that they are made again with what they lead to. Returns their paths."""
+    loose = {path for path in links if not os.path.exists(tree.at + path)}
+    write_all(tree, [f"rm {escaped_path(path)}" for path in loose])
+    return loose
 
 
 def plug(tree, missing):

@@ -3,7 +3,7 @@
 import json, os, re, signal, subprocess, sys, xml.etree.ElementTree
 
 from mounted import must
-from programs import eventually, processes
+from programs import eventually, leftovers, processes
 
 CHIP = "/devices/platform/coretemp.0/hwmon/hwmon0"
 # A reader that lists the chips and then trusts that they stay.
@@ -51,6 +51,8 @@ def explored(tools):
         must(ran.returncode == 128 + signal.SIGSEGV, f"{line}: {ran}")
     tried = explore(tools, "--at", finds[0][1], "--times", "4", script=TRUSTING)
     must((tried.returncode, tried.stdout) == (1, "4 of 4: killed by SIGSEGV\n"), tried)
+    hides = explore(tools, "--at", f"at read {CHIP}/name 1 hide {CHIP}/name", "--times", "2", script=TRUSTING)
+    must(hides.stdout == "2 of 2: killed by SIGSEGV\n", f"the tree is whole after each run: {hides}")
     other = explore(tools, "--at", f"at read {CHIP}/temp1_input 1 unplug {CHIP}", "--times", "2", script=TRUSTING)
     must(other.returncode == 0 and other.stdout == "2 of 2: no fault, but the step was not made\n", other)
     return f"{points} points, {count} finds"
@@ -148,6 +150,60 @@ def judged(tools):
     must(ran.returncode == 0, f"what a run writes is undone after it: {ran}")
 
 
+def piped(tools):
+    """An exploration reads its description once, so that it may come from a pipe"""
+    words = ["--at", f"at read {CHIP}/name 1 unplug {CHIP}", "--times", "1", "-", "--", "sh", "-c", TRUSTING]
+    ran = tools.run("explore", *words, input=tools.chip.read_text())
+    must((ran.returncode, ran.stdout) == (1, "1 of 1: killed by SIGSEGV\n"), ran)
+
+
+def chips(tools, count):
+    """A description with a number of chips: c10, c11 .."""
+    names = [f"c{number}" for number in range(10, 10 + count)]
+    lines = [f"mkdir {it}\n" for it in ("/class", "/class/chip", "/devices", *(f"/devices/{name}" for name in names))]
+    return tools.file("chips.kf", "".join([*lines, *(f"link /class/chip/{name} /devices/{name}\n" for name in names)]))
+
+
+def told_apart(tools):
+    """A known status hides no other one; each point has its own calm run, however many points there are"""
+    known = tools.file("known", "")
+    words = ["explore", "--actions", "unplug", "--known", known, chips(tools, 2), "--", "sh", "-c"]
+    trusts = "for it in $(ls /sys/class/chip); do [ -e /sys/class/chip/$it ] || exit ${it#c}; done"
+    ran = tools.run(*words, trusts, timeout=PATIENCE)
+    must(ran.returncode == 1 and sorted(what for what, _ in found_in(ran)) == ["status 10", "status 11"], ran)
+    known.write_text(f"{found_in(ran)[0][1]}\n")
+    ran = tools.run(*words, trusts, timeout=PATIENCE)
+    must(ran.returncode == 1 and "KNOWN: " in ran.stdout and len(found_in(ran)) == 1, f"one is known: {ran}")
+    words = ["explore", "--actions", "unplug", "--runs", "0", chips(tools, 70), "--", "sh", "-c"]
+    looks = "n=10; while [ $n -lt 80 ]; do [ -e /sys/devices/c$n ] || exit $n; n=$((n + 1)); done"
+    ran = tools.run(*words, looks, timeout=PATIENCE)
+    must(ran.returncode == 0 and int(last_line(ran).split()[0]) >= 70, f"70 deliberate statuses: {ran}")
+
+
+def daemons_start(tools):
+    """A calm run waits until a daemon is ready, and no other run has its daemon; one that does not start again is reported"""
+    pid, log = "/dev/shm/daemon.pid", tools.folder / "log"
+    asks = f"kill -0 $(cat {pid}) || exit 1; echo query $(cat {pid}) >> {log}; %s || {{ kill -USR1 $(cat {pid}); exit 1; }}"
+    serves = f"%s && there=1; sleep 0.2; trap '[ $there ] && exit 3' USR1; echo start$there $$ >> {log}; echo $$ > {pid}; %s"
+    serves %= "%s", "while :; do sleep 0.02; done"
+    is_there = f"[ -e /sys{CHIP} ]"
+    words = ["-n", "--actions", "unplug", "--runs", "3", "--device", CHIP, "--poke"]
+    ran = explore(tools, *words, asks % is_there, script="there=1; " + serves % is_there)
+    must(ran.returncode == 0, f"a status that it has if the device is absent: {ran}")
+    log.unlink()
+    are_there = " && ".join(f"[ -e /sys/devices/c{number} ]" for number in range(10, 15))
+    daemon = ["--poke", asks % f"{{ {are_there}; }}", chips(tools, 5), "--", "sh", "-c", serves % are_there]
+    ran = tools.run("explore", *words[:3], *daemon, timeout=PATIENCE)
+    lines = log.read_text().split("\n")
+    asked = [lines.count(f"query {it[6:]}") for it in lines if it.startswith("start ")]
+    must(ran.returncode == 1 and asked and max(asked) == 1, f"a daemon that began without a device: {ran} {asked}")
+    once = f"[ -e /dev/shm/lock ] && exit 9; touch /dev/shm/lock; echo $$ > {pid}; exec sleep 989"
+    poke = f"kill -0 $(cat {pid}) || exit 1; read name < /sys{CHIP}/name || {{ kill -ABRT $(cat {pid}); exit 1; }}"
+    ran = explore(tools, *words, poke, script=once)
+    must(ran.returncode == 1 and found_in(ran)[0][0] == "killed by SIGABRT" and "repeated 0 of 3" in ran.stdout, f"it starts once: {ran}")
+    must(re.search(r"^2 points could not be tried: the daemon ends before a query: status 9$", ran.stdout, re.M), ran.stdout)
+
+
 def daemons(tools):
     """An exploration queries a daemon, which goes on from run to run, and finds the query that it dies of"""
     pid = "/dev/shm/daemon.pid"  # with -n each tree has its own
@@ -177,6 +233,8 @@ def wrong_words(tools):
         (["--at", f"at peek {CHIP}/name 1 unplug {CHIP}"], TRUSTING, "--at: "),
         (["--at", f"at read {CHIP}/nothing 1 unplug {CHIP}"], TRUSTING, "--at: No such file or directory"),
         (["--at", f"at read {CHIP}/name 0 unplug {CHIP}"], TRUSTING, "--at: "),
+        (["--at", f"at read {CHIP}/name 1 hide {CHIP}/name;;rm {CHIP}"], TRUSTING, "--at: no line rm"),
+        (["--at", f"at read {CHIP}/name 1 unplug {CHIP}", "--json", "x.json"], TRUSTING, "no --json"),
         ([], "true", "no step that depends on a device"),
         ([], f"cat /sys{CHIP}/name; kill -SEGV $$", "killed by SIGSEGV"),
         (["--hang", "0.5"], "exec sleep 988", "a daemon needs --poke"),
@@ -216,6 +274,16 @@ def shrunk(tools):
     return f"{before} lines to {len(left)}"
 
 
+def shrunk_hang(tools):
+    """A hang comes again in tries that are shorter than the time after which it counts"""
+    lines = tools.file("hang.tl", f"0 unplug {CHIP}\n1.5 plug {CHIP}\n1.6 notify {CHIP}/name\n")
+    words = ["--seconds", "0.3", "--hang", "1", "--time", "10", lines, tools.chip, "--", "sh", "-c"]
+    ran = tools.run("shrink", *words, f"sleep 0.1; [ -e /sys{CHIP} ] || sleep 986", timeout=PATIENCE)
+    must(ran.returncode == 0 and "hangs: it did not end in 1 s" in ran.stdout, ran)
+    left = re.search(r"(\d) of 3 lines are left after (\d) tries", ran.stdout)
+    must(left and int(left[1]) < 3, f"lines that it needs not are left out: {ran}")
+
+
 def shrunk_at_once(tools):
     """A storm with --shrink ends with few lines and with the line that repeats its find, or with nothing if it found nothing"""
     words = ["--seed", "7", "--time", "30", "--kinds", "plug", "--shrink", "240", tools.chip, "--", "sh", "-c"]
@@ -233,8 +301,8 @@ def shrunk_at_once(tools):
     with subprocess.Popen(tools.command("storm", *words, "sleep 981"), stdout=subprocess.DEVNULL) as storm:
         must(eventually(lambda: processes("981")), "it runs")
         storm.terminate()
-    must(eventually(lambda: not processes("981")), "its storm ends with it")
+    must(eventually(lambda: not processes("981")) and not leftovers(), f"its storm ends with it: {leftovers()}")
     return f"{count} lines to {len(left)}"
 
 
-CASES = (explored, at_once, reported, judged, daemons, wrong_words, shrunk, shrunk_at_once)
+CASES = (explored, piped, at_once, reported, judged, told_apart, daemons, daemons_start, wrong_words, shrunk, shrunk_hang, shrunk_at_once)

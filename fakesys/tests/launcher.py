@@ -221,6 +221,8 @@ def new_tops(tools):
     must(sorted(os.listdir("/sys")) == known, "the machine's own /sys changed")
     ran = tools.run(tools.file("no-tops.kf", "file /a 644 1\n"), "echo", "ran")
     must((ran.returncode, ran.stdout) == (125, "") and "-a covers" in ran.stderr, f"nothing to cover: {ran}")
+    ran = tools.run("-", "echo", "ran", input="")
+    must((ran.returncode, ran.stdout) == (125, "") and "-a covers" in ran.stderr, f"an empty description: {ran}")
 
 
 KILL_THE_DAEMON = """for it in /proc/[0-9]*; do

@@ -55,6 +55,42 @@ def module(tools):
     must(not leftovers(), leftovers())
 
 
+def loose_links(tools):
+    """The Python module: links to a device that was removed without them lead to it again once it is plugged, or made whole"""
+    sys.path.insert(0, str(tools.modules))
+    from fakesys import FakeSys
+    from fakesys_whole import make_whole
+
+    device, name = "/devices/platform/coretemp.0", "/class/hwmon/hwmon0/name"
+    links = ["/class/hwmon/hwmon0", "/bus/platform/devices/coretemp.0", "/bus/platform/drivers/coretemp/coretemp.0"]
+    with FakeSys(tools.chip) as tree:
+        for again in lambda: tree.plug(device), lambda: make_whole(tree), lambda: make_whole(tree):
+            tree.give(f"rm {device}")
+            must(not os.path.exists(tree.path(name)), "it is gone")
+            again()
+            must(all(os.path.exists(tree.path(it)) for it in links) and tree.read(name) == b"coretemp\n", "it is back")
+        tree.give("mv /devices/platform/coretemp.0 /devices other")
+        make_whole(tree)
+        must(tree.read(name) == b"coretemp\n" and not os.path.exists(tree.path("/devices/other")), "it was moved")
+
+
+def long_texts(tools):
+    """A text that is cut in a description is cut again when a tree is made whole; a recording has all of a long file"""
+    sys.path.insert(0, str(tools.modules))
+    from fakesys import FakeSys
+    from fakesys_whole import make_whole
+
+    with FakeSys(f"mkdir /class\nfile /class/a 644 {'x' * 5000}\n") as tree:
+        tree.set("/class/a", 1)
+        make_whole(tree)
+        must(tree.read("/class/a") == b"x" * 4095, "it is cut")
+        tree.give(f"set /class/a {'y' * 4999}\\n\\c")
+        words = [tools.bin / "fakesys-record", "--root", tree.at, tree.path("/class")]
+        lines = subprocess.run(words, capture_output=True, text=True, check=True).stdout
+    with FakeSys(lines) as tree:
+        must(tree.read("/class/a") == b"y" * 4999 + b"\n", f"{len(tree.read('/class/a'))} bytes of 5000")
+
+
 def module_ends(tools):
     """The Python module: wrong descriptions, a daemon or a test that is killed, and odd names leave nothing behind"""
     sys.path.insert(0, str(tools.modules))
@@ -111,4 +147,4 @@ def examples(tools):
     return ran.stdout.strip().split("\n")[-1]
 
 
-TRIED = (module, module_ends, examples)
+TRIED = (module, loose_links, long_texts, module_ends, examples)

@@ -50,6 +50,20 @@ def followed(tools):
     must(f" unplug {CHIP}\n" in printed and "unplug /devices/platform/coretemp.0\n" not in printed, printed[-300:])
 
 
+def half(tools):
+    """A plug that fails half-way leaves nothing of the device, so that a later one succeeds; a node is made in the root"""
+    give, count = tools.giving(), sum(tools.chip.read_text().count(f"\n{it} ") for it in ("mkdir", "file", "link"))
+    ran = tools.script(
+        tools.chip,
+        f"exec 3< /sys{CHIP}/name 4< /sys{CHIP}/temp1_max",  # (a removed file keeps its slot while it is open)
+        f"{give} 'unplug {CHIP}'; {give} 'plug {CHIP}'; echo $?; exec 3<&- 4<&-",
+        f"for it in 1 2 3 4 5 6 7 8; do {give} 'plug {CHIP}' && break; sleep 0.2; done; cat /sys{CHIP}/name",
+        f"{give} 'rm {CHIP}/temp1_max' 'mkdir /new'; echo $?; ls -d ${{FAKESYS%/.control}}/new | wc -l",
+        words=["--slots", str(count + 1)],
+    )
+    must(ran.stdout.split() == ["1", "coretemp", "0", "1"] and f"No space left on device: " in ran.stderr, ran)
+
+
 def counted(tools):
     """`count` lets a number grow by itself, at its rate, in a device that is plugged again too"""
     words = tools.file("counter.kf", tools.chip.read_text() + f"set {CHIP}/temp1_max 1000 kB\ncount {CHIP}/temp1_max 2000/s\n")
@@ -102,4 +116,4 @@ def magic(tools):
     return "static programs too"
 
 
-TRIED = (followed, counted, ordered, magic)
+TRIED = (followed, half, counted, ordered, magic)

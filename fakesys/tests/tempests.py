@@ -81,6 +81,10 @@ def deliberate(tools):
         must(ran.returncode == 0 and f"; status {status} in calm runs too;" in ran.stdout, f"{script}: {ran}")
     ran = tools.storm(f"{there} || exit 0; sleep 0.05; {there} || exit 6", "--kinds", "plug")
     must(ran.returncode == 1 and "status 6" in ran.stdout, f"a status that only a change gives: {ran}")
+    lines = tools.file("long.tl", f"0 unplug {CHIP}\n2 plug {CHIP}\n")
+    slow = ["--replay", lines, "--calm", "0.3", "--time", "2", tools.chip, "--", "sh", "-c", f"sleep 0.6; {there} || exit 3"]
+    ran = tools.run("storm", *slow)
+    must(ran.returncode == 0 and "; status 3 in calm runs too;" in ran.stdout, f"it takes longer than --calm: {ran}")
     if not shutil.which("sensors"):
         return "without sensors, which is not installed"
     ran = tools.run("storm", "--time", "5", "--seed", "1", tools.chip, "--", "sensors")
@@ -100,6 +104,17 @@ def patient(tools):
     script = f"cat /sys{CHIP}/temp1_input > /dev/null; true"
     ran = tools.run("storm", "--replay", lines, "--time", "6", "--calm", "20", tools.chip, "--", "sh", "-c", script)
     must(ran.returncode == 0 and re.search(r"\(\d+ lines more than 1 s late: ", ran.stdout), ran)
+
+
+def kinds(tools):
+    """A storm gives only lines of the kinds that were named, and ends a fault as the description has it"""
+    described = tools.file("failing.kf", tools.chip.read_text() + f"fail {CHIP}/temp1_max 61\n")
+    for kind, given in ("plug", {"plug", "unplug"}), ("notify", {"notify"}), ("fail", {"fail"}), ("plug,slow", {"plug", "unplug", "slow"}):
+        printed = tools.said("storm", "--seed", "1", "--print", "--time", "10", "--kinds", kind, described)
+        words = [line.split(" ") for line in printed.split("\n")[:-1]]
+        must({it[1] for it in words if it[1] != "#"} == given, f"{kind}: {printed[-300:]}")
+        errors = {it[3] for it in words if it[1:3] == ["fail", f"{CHIP}/temp1_max"]}
+        must(kind != "fail" or "61" in errors and "0" not in errors, f"it fails by its description: {errors}")
 
 
 def options(tools):
@@ -126,4 +141,4 @@ def deaths(tools):
     must(poked.returncode == 1 and "SIGABRT" in poked.stdout, poked)
 
 
-TRIED = (storm, kept, calm, deliberate, patient, options, deaths)
+TRIED = (storm, kept, calm, deliberate, patient, kinds, options, deaths)
