@@ -3,10 +3,10 @@
 
 Looks for bugs in a program that reads sysfs, by trying each of its steps in turn. It runs COMMAND three times to see
 which steps it makes: look-ups, opens, reads, listings .. Then it runs COMMAND once for each step, and right before that
-step a device disappears or is replaced, or a file fails or has another text. A program that is killed by a signal, panics, hangs, or
-exits with a status that no calm run had, is a find. Each find has one line `at ..` that repeats it. The same command
-finds the same in a second run. The status is 0 if nothing is found, 1 if something is; 2 for a usage error; 125 if
-nothing can be mounted. Ctrl-C ends the search, which then reports what it found (130 if that is nothing)."""
+step a device disappears or is replaced, or a file fails or has another text. A program that is killed by a signal,
+panics, hangs, or exits with a status that no calm run had, is a find. Each find has one line `at ..` that repeats it.
+The same command finds the same in a second run. The status is 0 if nothing is found, 1 if something is; 2 for a usage
+error; 125 if nothing can be mounted. Ctrl-C ends the search, which then reports what it found (130 if that is nothing)."""
 import argparse
 import math
 import os

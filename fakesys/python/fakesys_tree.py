@@ -8,6 +8,9 @@ import re
 MOST_LINKS = 40  # on the way to a node, as in the kernel
 MOST_TEXT = 4095  # bytes: what is longer is cut in a `file` line, and refused in a `set` line
 MOST_LINES = 50  # in one write: the kernel may split a long one anywhere
+# The beginnings of the lines that a tree is made of. (A description may have others, such as `storm`.)
+MADE_OF = tuple(f"{it} " for it in ("mkdir", "file", "link", "activate", "set", "count", "filesystem", "hide"))
+MADE_OF += tuple(f"{it} " for it in ("fail", "late", "slow"))
 # Words of lines: whose path is followed through links, and of whose path only the directory is.
 FOLLOWED = ("set", "fail", "late", "slow", "count", "hide", "show", "notify", "unplug", "replug", "change", "filesystem")
 FOLLOWED_ABOVE = ("mkdir", "file", "link", "activate", "rm", "mv")
@@ -76,8 +79,7 @@ class Description:
     """The lines of a description, and what they say about its nodes."""
 
     def __init__(self, text):
-        made_of = ("mkdir ", "file ", "link ", "set ", "fail ", "late ", "slow ", "count ", "filesystem ")
-        self.words = [(line.split(" ", 2) + [""])[:3] for line in text.split("\n") if line.startswith(made_of)]
+        self.words = [(line.split(" ", 2) + [""])[:3] for line in text.split("\n") if line.startswith(MADE_OF)]
         self.by_path = sorted((path, number) for number, (_, path, _) in enumerate(self.words))
         self.by_target = sorted((rest, n) for n, (word, _, rest) in enumerate(self.words) if word == "link")
 
@@ -135,7 +137,8 @@ class Description:
         inside = self.below(self.by_path, top)
         if not any(words[:2] == ["mkdir", top] for words in inside):
             raise FileNotFoundError(2, f"the description has no device {top}")
-        lines = [" ".join(filter(None, words)) for words in inside if words[:2] != ["mkdir", top]]
+        own = ["mkdir", top], ["activate", top]
+        lines = [" ".join(filter(None, words)) for words in inside if words[:2] not in own]
         leads = self.below(self.by_target, top)
         into = [f"link {path} {target}" for _, path, target in leads if not f"{path}/".startswith(f"{top}/")]
         return [f"mkdir {top} off", *lines, f"activate {top}", *into]

@@ -15,8 +15,8 @@ def make_whole(tree):
     words = tree.description.words
     made = {unescaped_path(path): word for word, path, _ in words if word in NODES}
     there = nodes_of(tree)
-    there -= remove_loose(tree, {path for path in there if made.get(path) == "link"})
     remove_new(tree, there, made)
+    there -= remove_loose(tree, {path for path in there if made.get(path) == "link"})
     if plug(tree, made.keys() - there):
         there = nodes_of(tree)
     missing = {path for path in made if path not in there}
@@ -31,7 +31,7 @@ def make_whole(tree):
     # (a text that counts may have counted on a little since it was set)
     numbers = [(path, rest) for path, rest in files if re.match(r"\s*[-+]?\d", rest[4:])]
     write_all(tree, [line for path, rest in numbers for line in (f"count {path} 0/s", first_text(path, rest))])
-    write_all(tree, [" ".join(it) for it in words if it[0] not in NODES])
+    write_all(tree, [" ".join(filter(None, it)) for it in words if it[0] not in NODES])
 
 
 def first_text(path, rest):

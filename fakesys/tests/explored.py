@@ -282,6 +282,9 @@ def shrunk_hang(tools):
     must(ran.returncode == 0 and "hangs: it did not end in 1 s" in ran.stdout, ran)
     left = re.search(r"(\d) of 3 lines are left after (\d) tries", ran.stdout)
     must(left and int(left[1]) < 3, f"lines that it needs not are left out: {ran}")
+    words[1:6:2] = "0.5", "0", "5"
+    ran = tools.run("shrink", *words, f"[ -e /sys{CHIP} ] || kill -SEGV $$", timeout=PATIENCE)
+    must(ran.returncode == 0 and found_in(ran) and "usage" not in ran.stdout + ran.stderr, f"without a limit: {ran}")
 
 
 def shrunk_at_once(tools):

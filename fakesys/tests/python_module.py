@@ -72,6 +72,37 @@ def loose_links(tools):
         tree.give("mv /devices/platform/coretemp.0 /devices other")
         make_whole(tree)
         must(tree.read(name) == b"coretemp\n" and not os.path.exists(tree.path("/devices/other")), "it was moved")
+        for line in "rm /bus/platform/drivers/coretemp", "mv /bus/platform/drivers/coretemp /bus other":
+            tree.give(line)
+            make_whole(tree)
+            must(os.path.exists(tree.path(f"{device}/driver/coretemp.0")), f"a link to what is no device: {line}")
+
+
+def hidden(tools):
+    """What a description hides is hidden again, and what it activates is active again, in a plugged device and a tree made whole"""
+    sys.path.insert(0, str(tools.modules))
+    from fakesys import FakeSys
+    from fakesys_whole import make_whole
+
+    lines = ["mkdir /devices", "mkdir /devices/a off", "mkdir /devices/a/in off", "file /devices/a/in/b 444 x"]
+    lines += ["file /devices/a/c 444 x", "hide /devices/a/c", "activate /devices/a/in", "activate /devices/a"]
+    lines += ["mkdir /bus", "link /devices/a/subsystem /bus"]
+    with FakeSys("\n".join(lines) + "\n") as tree:
+        look = lambda: (sorted(os.listdir(tree.path("/devices/a"))), os.listdir(tree.path("/devices/a/in")))
+        before = look()
+        must(before == (["in", "subsystem"], ["b"]), before)
+        tree.unplug("/devices/a")
+        tree.plug("/devices/a")
+        must(look() == before, f"plugged: {look()}")
+        for change in (
+            lambda: tree.unplug("/devices/a"),
+            lambda: tree.unplug("/devices/a/in"),
+            lambda: tree.show("/devices/a/c"),
+            lambda: None,
+        ):
+            change()
+            make_whole(tree)
+            must(look() == before, f"made whole: {look()}")
 
 
 def long_texts(tools):
@@ -147,4 +178,4 @@ def examples(tools):
     return ran.stdout.strip().split("\n")[-1]
 
 
-TRIED = (module, loose_links, long_texts, module_ends, examples)
+TRIED = (module, loose_links, hidden, long_texts, module_ends, examples)
