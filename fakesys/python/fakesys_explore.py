@@ -258,7 +258,7 @@ def add_words(words):
     add("--runs", type=int, default=RUNS, help=f"try at most this many points (default {RUNS}; 0: all)")
     add("-j", "--jobs", type=int, default=1, help="trees side by side (default 1)")
     add("--poke", metavar="LINE", help="COMMAND is a daemon, and this shell line queries it: what is tried is one query")
-    add("--device", action="append", metavar="PATH", help="a directory that disappears, or whose files fail (default: each device)")
+    add("--device", action="append", metavar="PATH", help="a directory that disappears or whose files fail (default: each)")
     add("--actions", type=actions_of, default=ACTIONS, metavar="NAME,..", help=f"of {','.join(ACTIONS)} (default: all)")
     add("--hang", type=float, default=10, help="seconds that a run may take (default 10; at least ten times a calm run)")
     add("--calm", type=float, default=10, help="seconds until a daemon's first query must succeed (default 10)")
