@@ -278,7 +278,7 @@ def scripts_of(names):
 
 
 def main():
-    if len(sys.argv) < 2:
+    if len(sys.argv) < 2 or sys.argv[1].startswith("-"):
         sys.exit("workloads.py FOLDER [NAME..]")
     folder, names = sys.argv[1], sys.argv[2:]
     known = [*(it.__name__ for it in WORKLOADS + TREES + BESIDE), *READERS]
