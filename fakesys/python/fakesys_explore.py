@@ -50,7 +50,7 @@ class Search:
         self.options, self.rooms, self.known, self.verdict = options, rooms, known, Verdict(options.ok)
         self.description = fakesys.Description(options.text)
         self.places = Places(self.description, options.device)
-        self.calm_lines, self.steps = set(), []
+        self.calm_lines, self.others, self.steps = set(), 0, []  # (others: those that are no point's own change)
         self.tried, self.found, self.finds = [], {}, []
 
     # ---- calm runs ----
@@ -66,6 +66,8 @@ class Search:
 
     def calm_run(self, lines, **more):
         happened = self.rooms.run(lines, **more)
+        if "refused" in happened:
+            raise fakesys_run.Refused(happened["refused"])
         ending = Ending(happened["code"], happened["said"])
         if ending.code is None:
             raise fakesys_run.Refused(f"the command does not end in {self.options.hang:g} s: a daemon needs --poke LINE")
@@ -87,9 +89,10 @@ class Search:
         return True
 
     def learn(self, lines, is_own):
-        if lines in self.calm_lines or len(self.calm_lines) >= MOST_CALM and not is_own:
+        if lines in self.calm_lines or self.others >= MOST_CALM and not is_own:
             return
         self.calm_lines.add(lines)
+        self.others += not is_own
         happened = self.rooms.run(lines, fresh=True)
         if "refused" not in happened:
             self.verdict.learn(Ending(happened["code"], happened["said"]))
@@ -204,7 +207,8 @@ def explore(options, parser):
             report = fakesys_report.Report(options, points, search.tried, search.finds)
             report.print()
             files.write(report)
-            status = FOUND if report.failing() else INTERRUPTED if rooms.is_stopped else 0
+            is_dead = any("is_dead" in happened for _, happened in search.tried)
+            status = FOUND if report.failing() else INTERRUPTED if rooms.is_stopped else fakesys_run.WRONG if is_dead else 0
         rooms.close()
     return status
 

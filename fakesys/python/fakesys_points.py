@@ -204,9 +204,11 @@ class Healing:
     """The lines that make a tree whole again after what a line changed."""
 
     def __init__(self, description):
-        self.texts, self.faults = {}, {}  # of each path; of each word of a line, and its path
+        self.texts, self.faults, self.made = {}, {}, {}  # of each path; of a line's word and path; of each file and link
         for word, path, rest in description.words:
             path = escaped_path(unescaped_path(path))
+            if word in ("file", "link"):
+                self.made[path] = f"{word} {path} {rest}"
             if word == "file":
                 self.texts[path] = f"set {path} {text_of_file(rest) or chr(92) + 'c'}"
             elif word == "set":
@@ -221,6 +223,9 @@ class Healing:
             return list(dict.fromkeys(it for change in lines for it in self.after(change)))
         word, _, rest = line.partition(" ")
         path = rest.split(" ", 1)[0]
+        if word in DEVICES and path in self.made:
+            faults = [f"{it} {at} {value}" for (it, at), value in self.faults.items() if at == path]
+            return [self.made[path], *self.written([path]), *faults]
         if word in DEVICES:
             return [f"plug {path}"]
         if word in ("fail", "late", "slow"):

@@ -20,6 +20,7 @@ from fakesys_reader import reap
 MOST = 1 << 20  # bytes of output that are kept
 SHORTLY = 0.05  # seconds for a daemon to die after a query that went well
 LATER = 2  # .. and after one that failed
+MOST_FAILED = 3  # starts of a daemon, one after the other: then no more are tried
 END_WITH_PARENT = 1
 
 
@@ -30,6 +31,7 @@ class Program:
         self.options, self.tree_daemon, self.process, self.seen = options, tree_daemon, None, 0
         self.patience = options.hang  # seconds
         self.ready = None  # seconds from a daemon's start to its first reply, once there was one
+        self.failed = []  # why its last starts failed, one after the other
 
     def start(self):
         self.output = os.memfd_create("output")
@@ -91,6 +93,7 @@ class Program:
         if asked:
             raise fakesys_run.Refused(f"--poke: it fails though nothing is wrong: status {asked}")
         self.ready = max(self.ready or 0, time.monotonic() - start)
+        self.failed = []
         self.said()
 
     def ask(self):
@@ -147,11 +150,13 @@ class Room:
     def run(self, job):
         """Gives the lines of a job, and runs the command. Returns what happened as a dictionary. A daemon goes on from job to
         job; with `restart` it starts anew, with `fresh` it even starts after the lines, and ends after the job."""
-        lines = job["lines"]
+        lines, begins = job["lines"], self.options.poke and not job.get("fresh")
+        if begins and len(self.program.failed) >= MOST_FAILED:
+            return {"refused": self.program.failed[-1], "is_dead": True}
         if job.get("fresh") or job.get("restart"):
             self.program.end()
         try:
-            if self.options.poke and not self.program.process and not job.get("fresh"):
+            if begins and not self.program.process:
                 self.program.begin()
             for line in lines:
                 self.tree.give(line)
@@ -162,7 +167,8 @@ class Room:
             if self.program.ready is None:
                 raise  # it has never started here
             self.program.end()
-            return {"refused": str(problem)}
+            self.program.failed.append(str(problem))
+            return {"refused": str(problem), "is_dead": True}
         happened = self.run_under(lines, job)
         if job.get("fresh"):
             self.program.end()

@@ -26,7 +26,6 @@ HALF = 0.5  # of the time is for the exploration
 RUNS = 400  # points that it tries
 CALM = 0.3  # seconds without a storm before each try
 FIRST_CALM = 1  # .. and before the first ones
-ANY_TIME = 1e6  # seconds
 REPLAYED = 3  # seconds of each try
 ON_DEATH_OF_PARENT = 1
 FOUND, NOT_AGAIN = 1, 1
@@ -185,7 +184,8 @@ def explored(options, words, lines, seconds):
         return False
     limits = ["--seconds", f"{max(seconds, 0.1):.1f}", "--runs", str(RUNS)]
     named = [word for device in devices for word in ("--device", device)]
-    words += ["--hang", str(ANY_TIME)] * (options.hang == 0)
+    # (an exploration needs a limit, or a daemon or a point that hangs would never end; it is ten times a calm run anyway)
+    words += ["--hang", f"{max(seconds / 2, HANG):.1f}"] * (options.hang == 0)
     words = ["explore", *limits, *named, *words, options.description, "--", *options.command]
     with fakesys_again(words, stdout=None, stderr=None) as exploration:
         return exploration.wait() == FOUND

@@ -92,8 +92,9 @@ class Storm:
                 return None
 
     def be_patient(self, seconds):
-        """Gives a calm run twice as long as a run has just taken. (The end of a daemon shows no such time.)"""
-        if not self.poke:
+        """Gives a calm run twice as long as a run has just taken. (The end of a daemon shows no such time, and a first run
+        that takes so long may be one.)"""
+        if not self.poke and (self.reader.runs > 1 or seconds <= HANG):
             self.calm_seconds = max(self.calm_seconds, min(self.limit or LONGEST, 2 * seconds + 1))
 
     def last_fault(self):

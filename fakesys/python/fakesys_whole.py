@@ -2,7 +2,6 @@
 """Makes a tree whole again: as its description has it, whatever a test or a program has done to it."""
 import errno
 import os
-import re
 
 from fakesys import escaped_path, text_of_file, unescaped_path, write_lines
 
@@ -27,10 +26,9 @@ def make_whole(tree):
     write_all(tree, [" ".join(filter(None, it)) for it in words if it[0] in NODES and is_missing(it[1])])
     files = [(path, rest) for word, path, rest in words if word == "file"]
     write_all(tree, [f"{fault} {path} 0" for path, _ in files for fault in FAULTS])
-    write_all(tree, [first_text(path, rest) for path, rest in files])
-    # (a text that counts may have counted on a little since it was set)
-    numbers = [(path, rest) for path, rest in files if re.match(r"\s*[-+]?\d", rest[4:])]
-    write_all(tree, [line for path, rest in numbers for line in (f"count {path} 0/s", first_text(path, rest))])
+    # (only a number stops to count, and any text may have been one meanwhile)
+    stops = lambda path: (f"set {path} 0", f"count {path} 0/s")
+    write_all(tree, [line for path, rest in files for line in (*stops(path), first_text(path, rest))])
     write_all(tree, [" ".join(filter(None, it)) for it in words if it[0] not in NODES])
 
 
@@ -82,6 +80,6 @@ def write_all(tree, lines):
     left = list(lines)
     while left:
         left, error = write_lines(tree.control, left)
-        if error and error.errno not in (errno.ENOENT, errno.EEXIST, errno.EINVAL):
+        if error and error.errno not in (errno.ENOENT, errno.EEXIST, errno.EINVAL, errno.EBUSY):  # (EBUSY: it is hidden)
             raise OSError(error.errno, f"{error.strerror}: {left[0]}")
         left = left[1:]

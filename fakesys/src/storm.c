@@ -9,6 +9,7 @@ struct saved {
     enum { INSIDE, LINK_INSIDE, LINK_OUTSIDE } part; /* in the order in which they are created */
     char *path, *target;                              /* the target of a link */
     struct node node;                                 /* with its own copy of the text */
+    bool is_hidden;
 };
 
 struct storm {
@@ -58,6 +59,7 @@ static void save_text(struct saved *saved, const struct node *node)
 
 static int save(struct storm *storm, const struct node *node, int part)
 {
+    struct kt_node_info stat;
     struct saved *grown = realloc(storm->saved, (storm->count + 1) * sizeof *grown);
     if (!grown)
         return -ENOMEM;
@@ -65,6 +67,7 @@ static int save(struct storm *storm, const struct node *node, int part)
     struct saved *saved = &grown[storm->count++];
     *saved = (struct saved){.part = part, .path = path_of(key_of(node->number))};
     save_text(saved, node);
+    saved->is_hidden = !kt_stat(&tree, key_of(node->number), &stat) && stat.hidden;
     if (S_ISLNK(node->mode))
         saved->target = path_of(key_of(node->target));
     return saved->path && saved->node.text && (saved->target || !S_ISLNK(node->mode)) ? 0 : -ENOMEM;
@@ -136,7 +139,9 @@ static int make_again(struct saved *saved)
     node->magic = saved->node.magic;
     node->rate = saved->node.rate;
     count_change();
-    return S_ISREG(node->mode) ? set_text(node, saved->node.text, saved->node.length) : 0;
+    if (S_ISREG(node->mode))
+        error = set_text(node, saved->node.text, saved->node.length);
+    return error || !saved->is_hidden ? error : kt_hide(&tree, made); /* nobody is inside: it is not live yet */
 }
 
 /* Notes the first error. It is none that a link stays away because its target or its directory is away too, or because

@@ -202,6 +202,13 @@ def daemons_start(tools):
     ran = explore(tools, *words, poke, script=once)
     must(ran.returncode == 1 and found_in(ran)[0][0] == "killed by SIGABRT" and "repeated 0 of 3" in ran.stdout, f"it starts once: {ran}")
     must(re.search(r"^2 points could not be tried: the daemon ends before a query: status 9$", ran.stdout, re.M), ran.stdout)
+    ends = f"[ -e /dev/shm/lock ] && exit 9; touch /dev/shm/lock; trap 'exit 0' USR1; echo $$ > {pid}; while :; do sleep 0.02; done"
+    asks = f"kill -0 $(cat {pid}) || exit 1; echo >> /dev/shm/asked; [ $(wc -l < /dev/shm/asked) = 1 ] || kill -USR1 $(cat {pid}); :"
+    ran = explore(tools, *words, asks, script=ends)
+    must(ran.returncode == 2 and "the daemon ends before a query: status 9" in ran.stderr, f"it ends in a calm run: {ran}")
+    asks = f"kill -0 $(cat {pid}) || exit 1; read name < /sys{CHIP}/name || kill -USR1 $(cat {pid}); :"
+    ran = explore(tools, *words, asks, script=ends)
+    must(ran.returncode == 2 and " 0 finds" in last_line(ran), f"it ends without a fault, and starts once: {ran}")
 
 
 def daemons(tools):

@@ -94,6 +94,8 @@ def hidden(tools):
         tree.unplug("/devices/a")
         tree.plug("/devices/a")
         must(look() == before, f"plugged: {look()}")
+        tree.give("replug /devices/a")
+        must(look() == before, f"replugged: {look()}")
         for change in (
             lambda: tree.unplug("/devices/a"),
             lambda: tree.unplug("/devices/a/in"),
@@ -113,6 +115,7 @@ def long_texts(tools):
 
     with FakeSys(f"mkdir /class\nfile /class/a 644 {'x' * 5000}\n") as tree:
         tree.set("/class/a", 1)
+        tree.count("/class/a", 1000000)
         make_whole(tree)
         must(tree.read("/class/a") == b"x" * 4095, "it is cut")
         tree.give(f"set /class/a {'y' * 4999}\\n\\c")

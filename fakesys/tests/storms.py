@@ -69,7 +69,7 @@ def storms(mount):
 def replugged(mount):
     """A replug that cannot create the whole device again fails, says why, and leaves nothing of it; a link that leads
     nowhere is left out."""
-    mount.done("mkdir /devices/a", "mkdir /devices/a/b", "file /devices/a/b/c 444 x", "slow /devices/a/b/c 2500")
+    mount.done("mkdir /devices/a", "mkdir /devices/a/b", "file /devices/a/b/c 444 x", "slow /devices/a/b/c 5000")
     reader = Beside(read_path, mount.path("/devices/a/b/c"))
     time.sleep(0.6)
     replugger = Beside(mount.tell, "replug /devices/a/b")

@@ -107,7 +107,7 @@ def idle(program, folder):
     for words, most in ((), 64), (("-o", "max_idle_threads=1024"), 1024):
         with Mount(program, folder, FAN, options=words) as mount:
             count = lambda at=f"/proc/{mount.process.pid}/task": len(os.listdir(at))
-            mount.done("slow /devices/fan0/speed 1500")
+            mount.done("slow /devices/fan0/speed 4000")
             readers = [Beside(read_path, mount.path("/devices/fan0/speed")) for _ in range(120)]
             must([it.given() for it in readers] == [b"1200\n"] * 120, "each has its text")
             must(count() > 100 if most > 64 else eventually(lambda: count() < 80), f"{words}: {count()} threads")
