@@ -149,7 +149,8 @@ KT_MUST_USE KT_LIVE_CALL int32_t kt_live_publish_plugin(struct kt_live *live, co
  *
  * A callback may unpublish its own device, or one above it (device_remove_file_self). Then it gets 1 when all callbacks
  * there have ended, except those that its thread runs. It still runs in the device's code: after the free() it must no
- * longer touch the device, and nobody may unload its code before it has returned (kt_live_publish_plugin() says when
+ * longer touch the device. Once it has called this, devices above may be freed too, so it must not touch them either,
+ * except one that it gets. And nobody may unload its code before it has returned (kt_live_publish_plugin() says when
  * that is). If several callbacks do so at once, one of them gets 1, when the others have returned. A callback may try
  * again after -ETIMEDOUT. If it returns instead, the call that gets 1 waits until it has.
  *

@@ -208,13 +208,15 @@ public:
      * on, after the callback has returned. */
     taken take() noexcept
     {
-        return ended([this] { return kt_live_unpublish(live_, key_); });
+        return ended([](kt_live *live, kt_key key) { return kt_live_unpublish(live, key); });
     }
     /* The same with a time limit. If somebody is still inside then, this returns nothing, as after EDEADLK, and
      * take_for() or take() goes on. */
     taken take_for(std::chrono::milliseconds limit) noexcept
     {
-        return ended([this, limit] { return kt_live_unpublish_for(live_, key_, inner::limit_of(limit), nullptr); });
+        return ended([limit](kt_live *live, kt_key key) {
+            return kt_live_unpublish_for(live, key, inner::limit_of(limit), nullptr);
+        });
     }
     kt_key key() const noexcept { return key_; }
     explicit operator bool() const noexcept { return live_; }
@@ -222,15 +224,20 @@ public:
 private:
     friend class live;
     explicit published(T *object) : object_(object) {}
+    /* Unpublishes it by a step. This no longer owns it meanwhile: the release of a plug-in may publish another object
+     * here, or destroy this. */
     template <class Step> taken ended(Step &&step) noexcept
     {
-        std::int32_t result = live_ ? inner::unpublished(step) : 0;
-        if (result != -ETIMEDOUT && result != -EDEADLK)
-            live_ = nullptr;
+        T *object = object_;
+        kt_key key = key_;
+        kt_live *live = std::exchange(live_, nullptr);
+        std::int32_t result = live ? inner::unpublished([&] { return step(live, key); }) : 0;
+        if (result == -ETIMEDOUT || result == -EDEADLK)
+            live_ = live;
         if constexpr (std::is_void_v<T>)
             return result == 1;
         else
-            return taken(result == 1 ? object_ : nullptr);
+            return taken(result == 1 ? object : nullptr);
     }
     kt_live *live_ = nullptr;
     kt_key key_{};

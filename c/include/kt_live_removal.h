@@ -154,11 +154,14 @@ static inline void kt_live_step_aside(struct kt_live *live, struct kt_key top)
     pthread_cond_broadcast(&live->lock.left);
 }
 
-/* Whether a callback is aside for an unpublishing in which its thread sleeps. */
-static inline bool kt_live_gives_way(struct kt_live *live, const struct kt_live_call *call)
+/* Whether a callback is aside for an unpublishing in which its thread sleeps, and which may wait for a device's. (One of
+ * the same device that is not the first waits for no callback that is aside, and then its callback goes on.) */
+static inline bool kt_live_gives_way(struct kt_live *live, const struct kt_live_call *call,
+                                     const struct kt_live_device *device)
 {
     for (struct kt_live_sleep *it = live->sleeps; it; it = it->next)
-        if (pthread_equal(it->thread, kt_live_thread(call)) &&
+        if ((it->device || !kt_live_is_same(it->key, device->key)) &&
+            pthread_equal(it->thread, kt_live_thread(call)) &&
             kt_live_is_within(live, call->device, kt_live_find(live, it->key)))
             return true;
     return false;
@@ -169,7 +172,7 @@ static inline bool kt_live_uses(struct kt_live *live, const struct kt_live_call 
                                 const struct kt_live_device *device)
 {
     return call->device == device ||
-           (call->is_aside && kt_live_is_within(live, call->device, device) && !kt_live_gives_way(live, call));
+           (call->is_aside && kt_live_is_within(live, call->device, device) && !kt_live_gives_way(live, call, device));
 }
 
 /* Whether a callback of another thread may use a device. */
@@ -217,6 +220,15 @@ static inline bool kt_live_never_ends(struct kt_live *live, struct kt_live_sleep
 
 /* ---- unpublishing ---- */
 
+/* A device goes: what is below it, on the way up from another one, is then below what is above it. */
+static inline void kt_live_lift(struct kt_live *live, struct kt_live_device *it, const struct kt_live_device *gone)
+{
+    while (it && !kt_live_is_same(it->above, gone->key))
+        it = kt_live_find(live, it->above);
+    if (it)
+        it->above = gone->above;
+}
+
 /* The device is unpublished: none of this thread's callbacks is its any longer. What is to run once its last callback
  * has ended goes to the outermost of them, or to the unpublishing. */
 static inline void kt_live_forget(struct kt_live *live, struct kt_live_device *device, struct kt_live_sleep *sleep)
@@ -224,6 +236,7 @@ static inline void kt_live_forget(struct kt_live *live, struct kt_live_device *d
     struct kt_live_device **at = &live->at[device->key.slot].dir;
     struct kt_live_call *outer = NULL;
     for (struct kt_live_call *it = live->calls; it; it = it->next) {
+        kt_live_lift(live, it->device, device);
         if (it->device != device)
             continue;
         it->device = NULL;

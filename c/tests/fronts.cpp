@@ -169,6 +169,15 @@ void plugins(kernfs::live &live)
     deleted = 0;
     auto other = live.publish_plugin("/fan", std::make_unique<fan>(live, door, deleted), fans, release);
     check(other.take() && released == 2 && deleted == 1, "released by its owner");
+    decltype(other) owner;
+    owner = live.publish_plugin("/fan", std::make_unique<fan>(live, door, deleted), fans, [&] {
+        owner = live.publish_plugin("/fan", std::make_unique<fan>(live, door, deleted), fans, [] {});
+    });
+    check(owner.take() && owner, "the release has published the next one with the same owner");
+    check(owner.take() && !owner, "which owns it");
+    auto gone = std::make_unique<decltype(other)>();
+    *gone = live.publish_plugin("/fan", std::make_unique<fan>(live, door, deleted), fans, [&] { gone.reset(); });
+    check(gone->take() && !gone, "the release has destroyed the owner");
 }
 
 /* An object whose callback takes or destroys another one, once a callback is in both. */

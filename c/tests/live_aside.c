@@ -13,7 +13,7 @@ enum { SOON = 10, LONG = 60000 }; /* milliseconds */
 
 static struct kt_live *live;
 static struct kt_key key, other;
-static atomic_int is_inside, may_go, is_over, warnings, said, first, second, third;
+static atomic_int is_inside, may_go, is_over, warnings, said, first, second, third, stores;
 
 /* The other callback. */
 static int64_t stay(void *device, const struct kt_attribute *attribute, char *page)
@@ -103,10 +103,38 @@ static int64_t warned(void *device, const struct kt_attribute *attribute, const 
     return (int64_t)length;
 }
 
+/* Unpublishes the device between its own and the outer one, and goes on. */
+static int64_t middle(void *device, const struct kt_attribute *attribute, const char *bytes, size_t length)
+{
+    (void)device, (void)attribute, (void)bytes;
+    atomic_store(&first, kt_live_unpublish(live, key));
+    atomic_store(&may_go, 1);
+    usleep(20000);
+    atomic_store(&is_over, 1);
+    return (int64_t)length;
+}
+
+/* One of two that unpublish the outer device. The one that gets it sees whether the other one is over. */
+static int64_t both(void *device, const struct kt_attribute *attribute, const char *bytes, size_t length)
+{
+    (void)device, (void)bytes;
+    atomic_fetch_add(&stores, 1);
+    wait_for(attribute->which ? &second : &first);
+    if (kt_live_unpublish(live, other) == 1) {
+        atomic_store(&said, atomic_load(&is_over));
+        atomic_fetch_add(&third, 1);
+    } else {
+        usleep(20000);
+        atomic_store(&is_over, 1);
+    }
+    return (int64_t)length;
+}
+
 static const struct kt_attribute attributes[] = {
     {"thrice", 0644, stay, thrice, 0}, {"limited", 0644, stay, thrice, 1}, {"once", 0644, stay, once, 0},
     {"outlast", 0644, stay, once, 1},  {"below", 0644, stay, once, 2},     {"around", 0644, stay, around, 0},
-    {"warned", 0644, stay, warned, 0},
+    {"warned", 0644, stay, warned, 0}, {"middle", 0644, stay, middle, 0},  {"one", 0644, stay, both, 0},
+    {"two", 0644, stay, both, 1},
 };
 enum { COUNT = sizeof attributes / sizeof *attributes };
 
@@ -240,6 +268,57 @@ static void try_below(void)
     TRY(kt_live_unpublish(live, inner), 1);
 }
 
+/* Also if the callback has unpublished a device in between. */
+static void try_middle(void)
+{
+    pthread_t thread;
+    struct kt_key inner;
+    TRY(kt_live_publish(live, "/bus", NULL, 0, NULL, &other), 0);
+    TRY(kt_live_publish(live, "/bus/port", NULL, 0, NULL, &key), 0);
+    TRY(kt_live_publish(live, "/bus/port/fan0", attributes, COUNT, NULL, &inner), 0);
+    atomic_store(&may_go, 0);
+    atomic_store(&is_over, 0);
+    pthread_create(&thread, NULL, writer, "/bus/port/fan0/middle");
+    wait_for(&may_go);
+    TRY(kt_live_unpublish(live, other), 1);
+    TRY(atomic_load(&is_over), 1);
+    TRY(atomic_load(&first), 1);
+    join(thread);
+    TRY(kt_live_unpublish(live, inner), 1);
+}
+
+/* Two callbacks below one device unpublish it while a third one is inside: the one that gets it waits for the other. */
+static void try_both(void)
+{
+    pthread_t stays, one, two;
+    struct kt_key keys[2];
+    TRY(kt_live_publish(live, "/bus", NULL, 0, NULL, &other), 0);
+    TRY(kt_live_publish(live, "/bus/fan1", attributes, COUNT, NULL, &keys[0]), 0);
+    TRY(kt_live_publish(live, "/bus/fan2", attributes, COUNT, NULL, &keys[1]), 0);
+    atomic_store(&first, 0);
+    atomic_store(&second, 0);
+    atomic_store(&third, 0);
+    atomic_store(&stores, 0);
+    stays = begin(NULL, "/bus/fan1/one");
+    wait_for(&is_inside);
+    pthread_create(&one, NULL, writer, "/bus/fan1/one");
+    pthread_create(&two, NULL, writer, "/bus/fan2/two");
+    while (atomic_load(&stores) < 2)
+        sched_yield();
+    atomic_store(&first, 1);
+    usleep(2000);
+    atomic_store(&second, 1);
+    usleep(2000);
+    atomic_store(&may_go, 1);
+    join(stays);
+    join(one);
+    join(two);
+    TRY(atomic_load(&third), 1);
+    TRY(atomic_load(&said), 1);
+    for (int i = 0; i < 2; i++)
+        TRY(kt_live_unpublish(live, keys[i]), 1);
+}
+
 static void try_around(void)
 {
     TRY(kt_live_publish(live, "/other", attributes, COUNT, NULL, &other), 0);
@@ -273,6 +352,9 @@ int main(void)
     try_once(true);
     try_outlast();
     try_below();
+    try_middle();
+    for (int i = 0; i < 10; i++)
+        try_both();
     try_around();
     try_warned();
     TRY(kt_live_delete(live), 0);
