@@ -93,7 +93,7 @@ class Storm:
 
     def be_patient(self, seconds):
         """Gives a calm run twice as long as a run has just taken. (The end of a daemon shows no such time, and a first run
-        that takes so long may be one.)"""
+        that takes longer than this may be one.)"""
         if not self.poke and (self.reader.runs > 1 or seconds <= HANG):
             self.calm_seconds = max(self.calm_seconds, min(self.limit or LONGEST, 2 * seconds + 1))
 
