@@ -9,7 +9,7 @@ from pathlib import Path
 # The plug-in host loads and unloads two plug-ins so often; by hand: 10,000 times.
 CYCLES, FEWER_CYCLES = "200", "50"
 WARNINGS = ["-Wall", "-Wextra", "-Wshadow", "-Werror"]
-SANITIZERS = (("", []), ("ASan and UBSan", ["-fsanitize=address,undefined"]), ("TSan", ["-fsanitize=thread"]))
+SANITIZERS = (("", []), ("ASan and UBSan", ["-fsanitize=address,undefined", "-O1"]), ("TSan", ["-fsanitize=thread", "-O1"]))
 # what runs with each sanitizer
 CXX = (("tests/holds.cpp",), ("tests/service.cpp", "1000"), ("tests/fronts.cpp",))
 
