@@ -298,13 +298,15 @@ NUMBER_CASES = {
 # ---- the search
 
 def search(start, variant, next_of, stuck_in):
-    """How many states there are, and a stuck one if there is one: there it ends."""
+    """How many states there are, and a stuck one if there is one: there it ends. (Two states are one if they differ only in
+    which thread is which.)"""
     seen, todo = {start}, [start]
     while todo:
         word, threads = todo.pop()
         if stuck_in(word, threads):
             return len(seen), (word, threads)
-        for state in next_of(word, threads, variant):
+        for left, moved in next_of(word, threads, variant):
+            state = left, tuple(sorted(moved, key=hash))
             if state not in seen:
                 seen.add(state)
                 todo.append(state)
