@@ -12,14 +12,15 @@
  *         show_speed();                                        // the call is left at the end, also by an exception
  *     tree.remove_wait(fan);                                   // no callback runs there, and none ever starts
  *
- * - Each class owns its handle, and can be moved but not copied. One thread at a time uses a hold, a file, a post, a
- *   gate or a pass.
+ * - Each class owns its handle, and can be moved but not copied. Only one thread at a time uses a hold, a file, a post,
+ *   a gate or a pass.
  * - A call that fails throws kernfs::error, a std::system_error with the library's error number in generic_category().
- *   hold::enter() returns an empty call instead, and pass::enter() an empty visit, since a node that is gone is no error.
+ *   Two cases are not errors: if the node is not live, hold::enter() returns an empty call; and if the gate is shut,
+ *   pass::enter() returns an empty visit.
  * - Calls on a tree are made by an `editor`, so they are never made without the lock. A thread that has an editor may
- *   enter and leave, and drop holds. If it waits (tree::remove_wait(), gate::shut_wait() and the like) or asks for a
+ *   enter and leave, and drop holds. If it waits (tree::remove_wait(), gate::shut_wait() and so on) or asks for a
  *   second editor, it would wait for itself: then std::logic_error is thrown.
- * - A time limit below 0 is 0, and the largest one is some 49 days.
+ * - A time limit below 0 counts as 0, and the largest one is about 49 days.
  * - A tree must outlive the calls that run in it. Its holds, files, gates and passes may outlive it. */
 #ifndef KERNFS_TREE_HPP
 #define KERNFS_TREE_HPP
@@ -50,7 +51,7 @@ public:
     int number() const noexcept { return code().value(); }
 };
 
-/* A result of the C library, or the exception for it. */
+/* Returns a result of the C library, or throws the exception for it. */
 inline std::int64_t must(std::int64_t result)
 {
     if (result < 0)
@@ -62,7 +63,7 @@ using key = kt_key;
 using node_info = struct kt_node_info;
 
 namespace inner {
-/* A time limit for C. */
+/* Converts a time limit for C. */
 inline unsigned limit_of(std::chrono::milliseconds limit) noexcept
 {
     return static_cast<unsigned>(std::clamp<std::chrono::milliseconds::rep>(limit.count(), 0, UINT_MAX));
@@ -79,7 +80,8 @@ public:
         std::swap(raw_.at, other.raw_.at);
         return *this;
     }
-    /* (A tree in which a hiding has begun and not ended is not freed: its memory stays until the program ends.) */
+    /* (If a hiding has begun in a tree and has not ended, the tree is not freed: its memory stays until the program
+     * ends.) */
     ~handle() { (void)(raw_.at && kt_delete(raw_)); }
     kt_handle *get() noexcept { return &raw_; }
     explicit operator bool() const noexcept { return raw_.at; }
@@ -88,7 +90,8 @@ private:
     kt_handle raw_{nullptr};
 };
 
-/* The lock of a tree, in which its removals and hidings and the ends of its gates wait. It knows the thread that has it. */
+/* The lock of a tree, on which its removals and hidings and the shutting of its gates wait. It knows which thread has
+ * it. */
 class tree_lock {
 public:
     tree_lock() { must(kt_lock_init(&raw_)); }
@@ -104,14 +107,15 @@ public:
         owner_.store(std::thread::id(), std::memory_order_relaxed);
         pthread_mutex_unlock(&raw_.mutex);
     }
-    /* For a call that takes the lock itself and may sleep: this thread must not have it. */
+    /* For a call that takes the lock itself and may sleep. Throws if this thread has the lock. */
     kt_lock *unowned()
     {
         if (is_mine())
             throw std::logic_error("this thread has an editor of the tree: it would wait for itself");
         return &raw_;
     }
-    /* Wakes the threads that wait in a removal, a hiding or the end of a gate, with the lock or without it. */
+    /* Wakes the threads that wait in a removal, a hiding or the shutting of a gate. It may be called with the lock or
+     * without it. */
     void wake() noexcept
     {
         if (is_mine())
@@ -126,7 +130,7 @@ private:
     std::atomic<std::thread::id> owner_{};
 };
 
-/* What a callback runs under. Its destructor leaves. It is empty if the node could not be entered. */
+/* What a callback runs under. The destructor leaves. A call is empty if the node could not be entered. */
 class call {
 public:
     call() = default;
@@ -139,7 +143,7 @@ public:
             lock_->wake();
     }
 
-    /* While this exists, a removal does not wait for the call: for code that would wait for the removal. */
+    /* While this exists, a removal does not wait for the call. It is for code that would wait for the removal. */
     class broken {
     public:
         explicit broken(call &of) : of_(of)
@@ -163,10 +167,12 @@ private:
     tree_lock *lock_ = nullptr;
 };
 
-/* A hold of a node, which keeps the node's slot from being reused. One thread at a time uses it: dup() makes another. */
+/* A hold of a node, which keeps the node's slot from being reused. Only one thread at a time uses it: dup() makes
+ * another hold. */
 class hold {
 public:
-    /* Before a callback. The call is empty if the node is not live. The hold must not move before the call is left. */
+    /* Enters before a callback. The call is empty if the node is not live. The hold must not be moved before the call
+     * is left. */
     call enter()
     {
         std::int32_t entered = kt_enter(own_.get());
@@ -212,7 +218,8 @@ protected:
 /* An open file: its node, its event counter and the text of its last show. */
 class file : public hold {
 public:
-    /* What `show()` returns, which converts to std::string_view, from an offset on. What it throws is passed on. */
+    /* Returns what `show()` returns, from an offset on. That value must convert to std::string_view. What `show`
+     * throws, this throws. */
     template <class Show> std::string read(Show &&show, std::uint64_t offset = 0, std::size_t size = KT_PAGE_SIZE)
     {
         std::int32_t begun = kt_begin_read(own_.get(), offset);
@@ -228,7 +235,8 @@ public:
         out.resize(static_cast<std::size_t>(must(kt_copy(own_.get(), offset, out.data(), size))));
         return out;
     }
-    /* What `store(bytes)` returns, for a page of bytes at most. Without any byte it is 0, and `store` does not run. */
+    /* Returns what `store(bytes)` returns, for at most a page of bytes. Without any byte it returns 0, and `store` does
+     * not run. */
     template <class Store> std::size_t write(std::string_view bytes, Store &&store)
     {
         std::int32_t begun = kt_begin_write(own_.get());
@@ -250,7 +258,7 @@ private:
     using hold::hold;
 };
 
-/* What a callback by a pass runs under. Its destructor leaves. It is empty if the gate is shut. */
+/* What a callback by a pass runs under. The destructor leaves. A visit is empty if the gate is shut. */
 class visit {
 public:
     visit() = default;
@@ -273,7 +281,8 @@ private:
 /* A thread's way through a gate, by one of its lanes. It may outlive the gate. */
 class pass {
 public:
-    /* Before a callback. The visit is empty if the gate is shut. The pass must not move before the visit is left. */
+    /* Goes inside before a callback. The visit is empty if the gate is shut. The pass must not be moved before the
+     * visit is left. */
     visit enter()
     {
         std::int32_t entered = kt_pass_enter(own_.get());
@@ -284,7 +293,7 @@ public:
         must(entered);
         return visit(own_.get(), lock_.get());
     }
-    /* A pass for another thread, by the lane of this number, modulo the number of lanes. */
+    /* Makes a pass for another thread, by the lane with this number, modulo the number of lanes. */
     pass another(std::uint32_t lane)
     {
         pass other(lock_);
@@ -299,12 +308,14 @@ private:
     handle own_;
 };
 
-/* A gate of a node, for an object that many threads call: each goes through it by its own pass. While it is open, a
- * removal or a hiding of the node waits; tree::remove_gated_wait() removes both. Its destructor shuts it and waits until
- * nobody is inside. If somebody is, and this thread has an editor, the program ends: it would wait for itself. */
+/* A gate of a node, for an object that many threads call. Each thread goes through the gate by its own pass. While the
+ * gate is open, a removal or a hiding of the node waits; tree::remove_gated_wait() shuts the gate and removes the node.
+ * The destructor shuts the gate and waits until nobody is inside. If somebody is inside, and this thread has an editor,
+ * the program ends, because it would wait for itself. */
 class gate {
 public:
-    /* Makes a gate of a hold. If this throws (ENODEV: the node is not live), the caller still has the hold. */
+    /* Makes a gate of a hold. If this throws (for example ENODEV, because the node is not live), the caller still has
+     * the hold. */
     gate(hold &&of, std::uint32_t lanes) : first_(of.lock_), hold_(of.lock_)
     {
         std::int32_t made = kt_gate(of.own_.get(), lanes, first_.own_.get());
@@ -329,12 +340,13 @@ public:
         (void)!kt_shut_wait(hold_.own_.get(), hold_.lock_->unowned());
         pthread_setcancelstate(before, nullptr);
     }
-    /* A pass by the lane of this number, modulo the number of lanes. */
+    /* Makes a pass by the lane with this number, modulo the number of lanes. */
     kernfs::pass pass(std::uint32_t lane) { return first_.another(lane); }
-    /* Shuts the gate, and waits until nobody is inside. Nobody ever enters again by a pass of it. If it was shut and
-     * closed before, this fails with EINVAL. */
+    /* Shuts the gate, and waits until nobody is inside. Nobody ever enters again by a pass of the gate. If it was shut
+     * and closed before, this fails with EINVAL. */
     void shut_wait() { must(kt_shut_wait(hold_.own_.get(), hold_.lock_->unowned())); }
-    /* The same with a time limit. False if somebody is still inside: the gate stays shut, and it is called again. */
+    /* The same with a time limit. Returns false if somebody is still inside: the gate stays shut, and the caller calls
+     * again. */
     bool shut_wait_for(std::chrono::milliseconds limit)
     {
         auto shut = kt_shut_wait_for(hold_.own_.get(), hold_.lock_->unowned(), inner::limit_of(limit));
@@ -343,7 +355,7 @@ public:
 
 private:
     friend class tree;
-    /* The result of a kt_shut(), with the wake that is due after it. */
+    /* Returns the result of a kt_shut(), with the wake that is due after it. */
     std::int32_t ended(std::int32_t result) noexcept
     {
         if (result == 1)
@@ -370,7 +382,7 @@ private:
     handle own_;
 };
 
-/* The tree's lock, and the calls that are made under it. Each throws what kernfs_tree.h says it fails with. */
+/* The tree's lock, and the calls that are made under it. Each throws the errors that kernfs_tree.h documents for it. */
 class editor {
 public:
     editor(editor &&) = default;
@@ -411,11 +423,13 @@ public:
     std::string name(key of) { return text(KT_NAME_MAX, of, kt_name); }
     std::string path(key of) { return text(KT_PAGE_SIZE, of, kt_path); }
     std::string readlink(key of) { return text(KT_PAGE_SIZE, of, kt_readlink); }
-    /* The next live child after `child`, whose name is empty at first. False if there is no other. */
+    /* Finds the next live child after `child`, whose name is empty at first. Returns false if there is no other
+     * child. */
     bool next(key dir, kt_child &child) { return must(kt_list(at(), dir, &child)) == 1; }
-    /* Whether this is the first to claim the node's removal. Everything below it is marked. */
+    /* Marks a node and everything below it, and returns whether this call is the first to claim the node's removal. */
     bool claim(key of) { return must(kt_claim(at(), of)) == 0; }
-    /* Compacts the tree's log if it has 1,000 more than twice as many commands as the tree needs. */
+    /* Compacts the tree's log if it has at least 1,000 more than twice as many commands as kt_compact() leaves at
+     * most. */
     void tidy()
     {
         struct kt_command_counts counts = {0, 0};
@@ -474,35 +488,36 @@ private:
 
 class tree {
 public:
-    /* The maximum of nodes at once, with the root and those that are gone and still held; and of holds of one node. */
+    /* `slots` is the maximum number of nodes at once, including the root and nodes that are gone but still held.
+     * `holds` is the maximum number of holds of one node. */
     tree(std::uint32_t slots, std::uint32_t holds) : lock_(std::make_shared<tree_lock>())
     {
         must(kt_create_root(own_.get(), slots, holds));
     }
     [[nodiscard]] editor edit() { return editor(own_.get(), lock_); }
 
-    /* Removes a node and all below it, and waits until no callback runs there. True if this call took it out. (If a
-     * callback calls remove_self_wait() meanwhile, that may return true too, or instead: editor::claim() says which
-     * thread frees.) */
+    /* Removes a node and everything below it, and waits until no callback runs there. Returns true if this call took
+     * the node out. (If a callback calls remove_self_wait() meanwhile, that call may return true too, or instead:
+     * editor::claim() says which thread frees.) */
     bool remove_wait(key of) { return must(kt_remove_wait(own_.get(), of, lock_->unowned())) == 1; }
-    /* The same with a time limit. Empty if somebody is still inside: everything stays marked, and it is called again.
-     * Otherwise the node is out, and the value is what remove_wait() returns. */
+    /* The same with a time limit. The result is empty if somebody is still inside: everything stays marked, and the
+     * caller calls again. Otherwise the node is out, and the value is what remove_wait() returns. */
     std::optional<bool> remove_wait_for(key of, std::chrono::milliseconds limit)
     {
         return limited(kt_remove_wait_for(own_.get(), of, lock_->unowned(), inner::limit_of(limit)));
     }
-    /* Removes the node of a gate and all below it, shuts the gate, and waits until nobody is inside. */
+    /* Removes the node of a gate and everything below it, shuts the gate, and waits until nobody is inside. */
     bool remove_gated_wait(gate &of, key its)
     {
         return must(kt_remove_gated_wait(own_.get(), of.hold_.own_.get(), its, lock_->unowned())) == 1;
     }
-    /* The same with a time limit, as remove_wait_for(). The gate stays shut. */
+    /* The same with a time limit, like remove_wait_for(). The gate stays shut. */
     std::optional<bool> remove_gated_wait_for(gate &of, key its, std::chrono::milliseconds limit)
     {
         return limited(kt_remove_gated_wait_for(own_.get(), of.hold_.own_.get(), its, lock_->unowned(),
                                                 inner::limit_of(limit)));
     }
-    /* Removes a call's node, or one above it, from inside. True for the first that does so. */
+    /* Removes a call's node, or one above it, from inside. Returns true to the first call that does so. */
     bool remove_self_wait(call &inside, key of)
     {
         return must(kt_remove_self_wait(own_.get(), inside.raw_, of, lock_->unowned())) == 1;

@@ -2,11 +2,12 @@
 /* kt_check.h: sanitizer annotations for programs that use kernfs_tree.h, which includes this. Sanitizers do not see the
  * library's own atomics, so they would miss real misuse and report false races.
  *
- * Under AddressSanitizer and ThreadSanitizer (gcc, clang), each call first uses its handles, and the last byte of names
- * and paths. So they report a handle after kt_delete() and a text that is shorter than its length. ThreadSanitizer also
- * reports a handle that two threads use at once, and calls on a tree without its lock. It also learns what happens
- * before what (kt_told.h), and in which order locks are taken (kt_order.h). kt_delete() of a call, of a pass that is
- * inside or of an open gate, and a key of another tree (kt_keys.h), abort the program with a message.
+ * Under AddressSanitizer and ThreadSanitizer (gcc, clang), each call first touches its handles, and the last byte of
+ * names and paths. So the sanitizers report a handle that is used after kt_delete(), and a text that is shorter than
+ * its length argument. ThreadSanitizer also reports a handle that two threads use at once, and calls on a tree without
+ * its lock. It also learns what happens before what (kt_told.h), and in which order locks are taken (kt_order.h). Some
+ * mistakes abort the program with a message: kt_delete() of a call, of a pass that is inside or of an open gate, and a
+ * key of another tree (kt_keys.h).
  *
  * This tests nothing in the library. Without a sanitizer it is empty. */
 #include "kernfs_tree.h"
@@ -39,14 +40,14 @@ static inline struct kt_handle *kt_used(struct kt_handle *handle)
     return handle;
 }
 
-/* A tree that a call with this key gets. */
+/* Touches the tree of a call that gets this key, and checks the key. */
 static inline struct kt_handle *kt_used_for(struct kt_handle *tree, struct kt_key key)
 {
     kt_keys_check(kt_used(tree), key);
     return tree;
 }
 
-/* The last byte of a text is there. */
+/* Touches the last byte of a text. */
 static inline const void *kt_there(const void *text, size_t length)
 {
     if (length)
@@ -69,7 +70,7 @@ static inline int32_t kt_clear_told(struct kt_handle *handle)
     int32_t answer;
     kt_touch(handle->at);
     kt_told_release(handle->at);
-    kt_told_shown(handle->at, root); /* a tree's files, as it goes */
+    kt_told_shown(handle->at, root); /* the files of a tree that is freed */
     answer = kt_clear(handle);
     if (answer >= 0) {
         kt_order_left(handle->at); /* (after -EBUSY a pass is still inside) */
@@ -98,14 +99,15 @@ static inline int32_t kt_create_root_with_looks_told(
     return answer;
 }
 
-/* Ends a program that deletes what it must end first. */
+/* Aborts a program that deletes what it must end first. */
 static inline void kt_no_delete(const char *text)
 {
     fprintf(stderr, "kernfs_tree: kt_delete() of %s\n", text);
     abort();
 }
 
-/* Of a call kt_delete() may return 1, of a gate or a pass -EBUSY, and most programs do not look: threads would sleep on. */
+/* For a call kt_delete() may return 1, and for a gate or a pass -EBUSY. Most programs do not look at that, and threads
+ * would sleep on. */
 static inline int32_t kt_delete_told(struct kt_handle handle)
 {
     int32_t answer;
@@ -164,7 +166,8 @@ static inline int32_t kt_look_told(struct kt_handle *looker, const void *path, s
     return kt_look(kt_used(looker), kt_there(path, length), length, out);
 }
 
-/* The nodes above it are not known without the tree's lock, so its steps are taken for those of any node. */
+/* The nodes above this one are not known without the tree's lock, so the steps of this hold are taken for those of any
+ * node. */
 KT_CALL(1)
 static inline int32_t kt_pin_told(struct kt_handle *looker, struct kt_key key, struct kt_handle *hold)
 {
@@ -197,7 +200,7 @@ static inline int32_t kt_rename_told(struct kt_handle *tree, struct kt_key key, 
     return kt_rename(kt_used_for(tree, dir), key, dir, kt_there(name, length), length);
 }
 
-/* The result of a call that gave out a key of the tree if it is 0. */
+/* Returns the result of a call. If it is 0, the call gave out a key of the tree. */
 static inline int32_t kt_given(const struct kt_handle *tree, int32_t answer, const struct kt_key *out)
 {
     if (!answer)
@@ -322,7 +325,7 @@ static inline int32_t kt_unhide_told(struct kt_handle *tree, struct kt_key key)
     return kt_unhide(tree, key);
 }
 
-/* The result of a step that ended what a thread was inside by a handle, if it is 0 or more. */
+/* Returns the result of a step. If it is 0 or more, the step ended what a thread was inside by this handle. */
 static inline int32_t kt_left_told(struct kt_handle *handle, int32_t answer)
 {
     if (answer >= 0)
@@ -344,7 +347,7 @@ static inline int32_t kt_break_told(struct kt_handle *call)
     return kt_left_told(call, kt_break(call));
 }
 
-/* `begun` is what is returned if the node was entered. */
+/* Returns the result of a step that may enter a node. It is `begun` if the node was entered. */
 static inline int32_t kt_entered_told(struct kt_handle *hold, int32_t answer, int32_t begun)
 {
     if (answer >= 0)

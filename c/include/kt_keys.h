@@ -1,16 +1,16 @@
 /* SPDX-License-Identifier: MIT OR Apache-2.0 */
 /* kt_keys.h: reports keys of another tree, in programs that use kernfs_tree.h; kt_check.h includes this.
  *
- * Under AddressSanitizer and ThreadSanitizer a program is aborted with a message if it passes a key to a tree that has
- * not given it out. For this, each tree here begins with other generations than the seven trees before it: their first
+ * Under AddressSanitizer and ThreadSanitizer, a program is aborted with a message if it passes a key to a tree that has
+ * not given the key out. For this, each tree begins with other generations than the seven trees before it: its first
  * slots are used and freed a few times, before kt_create_root() returns. So the keys of two trees differ, until their
- * slots were used again and again: a key that both trees have given out is not reported, and neither is a key of a slot
+ * slots were used again and again. A key that both trees have given out is not reported, and neither is a key of a slot
  * beyond the first KT_KEYS_FIRST that both trees have used.
  *
- * Nothing is reported of a tree that was made in code without a sanitizer, or while 64 others existed, or of a key that
- * no tree gave out. Nor of a node that code without a sanitizer has created, while the node exists: once it is gone,
- * its key is reported if another tree gave out the same one. The table here belongs to the whole program: if a plug-in
- * includes this too, link the program with -rdynamic, as for kt_told.h. */
+ * Nothing is reported about a tree that was made in code without a sanitizer, or while 64 others existed, or about a
+ * key that no tree gave out. The same holds for a node that code without a sanitizer has created, while the node
+ * exists. Once it is gone, its key is reported if another tree gave out the same one. The table here belongs to the
+ * whole program: if a plug-in includes this too, link the program with -rdynamic, as for kt_told.h. */
 #include "kernfs_tree.h"
 #ifndef KT_KEYS_H
 #define KT_KEYS_H
@@ -28,15 +28,15 @@
 
 enum { KT_KEYS_TREES = 64, KT_KEYS_FIRST = 32, KT_KEYS_STEP = 7, KT_KEYS_WAYS = 8 };
 
-/* A tree that has not been freed. What it has given out is looked at under its lock, or under `is_locked`. */
+/* A tree that has not been freed. What it has given out is read under its lock, or under `is_locked`. */
 struct kt_keys_tree {
     void *at; /* of its handle, or NULL */
     uint32_t slots;
     uint32_t *last;                       /* of each slot, the generation of the last key that was given out */
-    uint32_t before[KT_KEYS_FIRST + 1]; /* of the first slots, the last generation that the program has not got */
+    uint32_t before[KT_KEYS_FIRST + 1]; /* of the first slots, the last generation that the program never got */
 };
 struct kt_keys_program {
-    bool is_locked; /* while a tree comes or goes, or a tree looks at others */
+    bool is_locked; /* while a tree is added or removed, or the trees are searched */
     unsigned made;
     uint64_t given[KT_KEYS_FIRST + 1]; /* of the first slots, a bit for each generation that some tree has given out */
     struct kt_keys_tree trees[KT_KEYS_TREES];
@@ -53,7 +53,7 @@ KT_KEYS_CALL void kt_keys_lock(void)
 }
 KT_KEYS_CALL void kt_keys_unlock(void) { __atomic_clear(&kt_keys.is_locked, __ATOMIC_RELEASE); }
 
-/* The tree behind a handle, or NULL. For NULL, a free place. */
+/* Finds the tree behind a handle, or returns NULL. For NULL it finds a free place. */
 KT_KEYS_CALL struct kt_keys_tree *kt_keys_find(const void *at)
 {
     for (unsigned i = 0; i < KT_KEYS_TREES; i++)
@@ -74,7 +74,7 @@ KT_KEYS_CALL bool kt_keys_has(const struct kt_keys_tree *it, struct kt_key key)
            key.generation <= __atomic_load_n(&it->last[key.slot], __ATOMIC_RELAXED);
 }
 
-/* A tree has given out a key. */
+/* Records that a tree has given out a key. */
 KT_KEYS_CALL void kt_keys_give(const void *at, struct kt_key key)
 {
     struct kt_keys_tree *it = kt_keys_find(at);
@@ -84,14 +84,15 @@ KT_KEYS_CALL void kt_keys_give(const void *at, struct kt_key key)
         __atomic_fetch_or(&kt_keys.given[key.slot], UINT64_C(1) << key.generation, __ATOMIC_RELAXED);
 }
 
-/* Whether a key below those of a tree was given out by another one, which may have been freed. */
+/* Whether some tree, which may have been freed, has given out this key. (It is called for a key whose generation is
+ * below those of the tree that gets the key, so that was another tree.) */
 KT_KEYS_CALL bool kt_keys_was_given(struct kt_key key)
 {
     return key.slot <= KT_KEYS_FIRST && key.generation < 64 &&
            __atomic_load_n(&kt_keys.given[key.slot], __ATOMIC_RELAXED) >> key.generation & 1;
 }
 
-/* Uses the first slots of a new tree a number of times. */
+/* Uses the first slots of a new tree this many times. */
 KT_KEYS_CALL void kt_keys_use(struct kt_handle *tree, struct kt_keys_tree *it, unsigned times)
 {
     struct kt_key root = {0, 1}, dir, key;
@@ -112,7 +113,7 @@ KT_KEYS_CALL void kt_keys_use(struct kt_handle *tree, struct kt_keys_tree *it, u
     kt_compact(tree);
 }
 
-/* A new tree. */
+/* Adds a new tree. */
 KT_KEYS_CALL void kt_keys_begin(struct kt_handle *tree, uint32_t slots)
 {
     unsigned number = __atomic_fetch_add(&kt_keys.made, 1, __ATOMIC_RELAXED);
@@ -135,7 +136,7 @@ KT_KEYS_CALL void kt_keys_begin(struct kt_handle *tree, uint32_t slots)
         free(made.last);
 }
 
-/* A tree that was freed, or another handle. */
+/* Removes a tree that was freed. Does nothing for any other handle. */
 KT_KEYS_CALL void kt_keys_end(const void *at)
 {
     struct kt_keys_tree *it;
@@ -159,7 +160,7 @@ KT_KEYS_CALL bool kt_keys_other_has(const struct kt_keys_tree *it, struct kt_key
     return found;
 }
 
-/* Before a call on a tree. */
+/* Checks a key before a call on a tree. */
 KT_KEYS_CALL void kt_keys_check(struct kt_handle *tree, struct kt_key key)
 {
     struct kt_keys_tree *it = kt_keys_find(tree->at);

@@ -10,7 +10,7 @@
  *     std::optional<std::string> text = live.read("/fan0/speed");      // empty if the fan is gone
  *     one = {};                                  // unpublishes it, waits until no thread is in its code, and deletes it
  *
- * A reader or writer gets what a member function throws: the error number of a std::system_error, ENOMEM for
+ * If a member function throws, the reader or writer gets an error number: that of a std::system_error, ENOMEM for
  * std::bad_alloc, and EIO for everything else. read() and write() return an empty optional if the node is not there
  * (ENODEV, ENOENT), and throw kernfs::error for every other error. */
 #ifndef KT_LIVE_HPP
@@ -67,8 +67,8 @@ template <auto Store> std::int64_t store(void *device, const kt_attribute *, con
         return static_cast<std::int64_t>(length);
     });
 }
-/* What a step of an unpublishing returns. It asks again if memory or a hold is missing, because the object cannot
- * stay. */
+/* Returns what a step of an unpublishing returns. It repeats the step while memory or a hold is missing, because the
+ * object cannot stay. */
 template <class Step> std::int32_t unpublished(Step &&step) noexcept
 {
     std::int32_t result;
@@ -76,7 +76,7 @@ template <class Step> std::int32_t unpublished(Step &&step) noexcept
         ::poll(nullptr, 0, 10);
     return result;
 }
-/* Whether this was the first. */
+/* Unpublishes a device, and returns whether this call was the first to do so. */
 inline bool unpublish(kt_live *live, kt_key key) noexcept
 {
     return unpublished([&] { return kt_live_unpublish(live, key); }) == 1;
@@ -84,7 +84,7 @@ inline bool unpublish(kt_live *live, kt_key key) noexcept
 inline bool is_gone(std::int64_t result) { return result == -ENODEV || result == -ENOENT; }
 } // namespace inner
 
-/* An attribute of a class: its name, which must live as long as the list, and its member functions. */
+/* An attribute of a class: its name, which must live as long as the list of attributes, and its member functions. */
 template <class T> struct attribute : kt_attribute {};
 
 template <auto Show> constexpr auto shows(const char *name, std::uint16_t mode = 0444)
@@ -137,8 +137,8 @@ private:
 };
 
 /* An open attribute, for one thread that reads or writes it often: no call takes a lock or looks up a path. Its calls
- * return what those of live do; an empty optional, for ever, once the object is unpublished. The destructor closes it;
- * it must not run in the attribute's own callback. */
+ * return what those of `live` return. Once the object is unpublished, they return an empty optional, for ever. The
+ * destructor closes the file, and must not run in the attribute's own callback. */
 class open_file {
 public:
     open_file(open_file &&other) noexcept : raw_(std::exchange(other.raw_, nullptr)) {}
@@ -168,7 +168,7 @@ public:
             return std::nullopt;
         return static_cast<std::size_t>(must(taken));
     }
-    /* Whether it has changed since the last read(), was never read, or is gone. */
+    /* Whether the attribute has changed since the last read(), was never read, or is gone. */
     bool changed() { return must(kt_live_changed(raw_)) == 1; }
 
 private:
@@ -177,10 +177,11 @@ private:
     kt_live_file *raw_ = nullptr;
 };
 
-/* The owner of a published object. Its destructor unpublishes the object, waits until no thread is in its code, and
- * deletes it, unless another call was first. A callback of the object must not destroy its owner: live::take_self(). If
- * the destructor runs in a callback of another object, and both callbacks would wait for each other (EDEADLK), the
- * program ends, because the object can neither stay nor go. Such a callback calls take(). */
+/* The owner of a published object. The destructor unpublishes the object, waits until no thread is in its code, and
+ * deletes it, unless another call was first. A callback of the object must not destroy its owner: it calls
+ * live::take_self(). If the destructor runs in a callback of another object, and both callbacks would wait for each
+ * other (EDEADLK), the program ends, because the object can neither stay nor be deleted. Such a callback calls take()
+ * instead. */
 template <class T> class published {
 public:
     published() = default;
@@ -200,18 +201,18 @@ public:
         if (live_)
             std::terminate();
     }
-    /* What a call that unpublishes returns: the object; of a plain directory and of a plug-in's object, true. */
+    /* What a call that unpublishes returns: the object; or true, for a plain directory and an object of a plug-in. */
     using taken = std::conditional_t<std::is_void_v<T>, bool, std::unique_ptr<T>>;
-    /* Unpublishes it. The object for the first call that does so, once no thread is in its code; else empty, or false.
-     * In a callback of another object it may return nothing at once (EDEADLK): callbacks unpublish each other's object.
-     * Then the object is marked and stays so: nobody can enter, this still owns it (its bool is true), and take() goes
-     * on, after the callback has returned. */
+    /* Unpublishes the object. Returns it to the first call that does so, once no thread is in its code; otherwise the
+     * result is empty, or false. In a callback of another object this may return nothing at once (EDEADLK), because
+     * callbacks unpublish each other's object. Then the object is marked and stays so, and nobody can enter. This still
+     * owns it (its bool is true), and another take() finishes, after the callback has returned. */
     taken take() noexcept
     {
         return ended([](kt_live *live, kt_key key) { return kt_live_unpublish(live, key); });
     }
-    /* The same with a time limit. If somebody is still inside then, this returns nothing, as after EDEADLK, and
-     * take_for() or take() goes on. */
+    /* The same with a time limit. If somebody is still inside then, this returns nothing, as after EDEADLK, and another
+     * take_for() or take() finishes. */
     taken take_for(std::chrono::milliseconds limit) noexcept
     {
         return ended([limit](kt_live *live, kt_key key) {
@@ -224,8 +225,8 @@ public:
 private:
     friend class live;
     explicit published(T *object) : object_(object) {}
-    /* Unpublishes it by a step. This no longer owns it meanwhile: the release of a plug-in may publish another object
-     * here, or destroy this. */
+    /* Unpublishes the object by a step. Meanwhile this no longer owns the object, because the release of a plug-in may
+     * publish another object here, or destroy this. */
     template <class Step> taken ended(Step &&step) noexcept
     {
         T *object = object_;
@@ -249,7 +250,8 @@ public:
     explicit live(std::uint32_t slots) { must(kt_live_new(&raw_, slots)); }
     live(const live &) = delete;
     live &operator=(const live &) = delete;
-    /* Everything must be unpublished, nothing watched, and no other thread here; otherwise the program ends. */
+    /* Everything must be unpublished, nothing may be watched, and no other thread may be in a call. Otherwise the
+     * program ends. */
     ~live()
     {
         if (kt_live_delete(raw_))
@@ -266,9 +268,10 @@ public:
         made.live_ = raw_;
         return made;
     }
-    /* The same for an object of a plug-in. Once it is unpublished and none of its callbacks is on any stack, the object is
-     * deleted and then `release` runs, once: it may dlclose() the plug-in. It must not throw. This call must be compiled
-     * into the host: so T is a class of the host, and the object is of a class of the plug-in below it. */
+    /* Publishes an object of a plug-in. Once it is unpublished and none of its callbacks is on any stack, the object is
+     * deleted, and then `release` runs, once: it may dlclose() the plug-in. `release` must not throw. This call must be
+     * compiled into the host. So T is a class of the host, and the object is of a class of the plug-in that is derived
+     * from T. */
     template <class T>
     [[nodiscard]] published<void> publish_plugin(const char *path, std::unique_ptr<T> &&object,
                                                  const attributes<T> &list, std::function<void()> release)
@@ -293,18 +296,18 @@ public:
         made.live_ = raw_;
         return made;
     }
-    /* In a callback of an object, which is `self`: unpublishes it. The first call gets the object, once no other thread
-     * is in its code, and may delete it. The code itself must stay mapped: this returns into it. After EDEADLK it
-     * returns nothing, and the owner of the object still has it. */
+    /* Unpublishes an object in one of its callbacks; `self` is the object. The first call gets the object, once no
+     * other thread is in its code, and may delete it. The code itself must stay mapped, because this returns into it.
+     * After EDEADLK this returns nothing, and the owner of the object still has it. */
     template <class T> std::unique_ptr<T> take_self(T *self)
     {
         return std::unique_ptr<T>(inner::unpublish(raw_, kt_live_self(raw_)) ? self : nullptr);
     }
-    /* The same for an object of publish_plugin(), which deletes it once its callbacks have returned. */
+    /* The same for an object of publish_plugin(), which deletes the object once its callbacks have returned. */
     bool unpublish_self() noexcept { return inner::unpublish(raw_, kt_live_self(raw_)); }
     kt_key self() { return kt_live_self(raw_); }
-    /* Runs a function on the object at a path, which must be a T: the object exists until the function returns. Whether
-     * it ran; not if no object is there. What it throws, this throws. */
+    /* Runs a function on the object at a path, which must be a T: the object exists until the function returns. Returns
+     * whether the function ran; it does not if no object is there. What the function throws, this throws. */
     template <class T, class Body> bool run(const char *path, Body &&body)
     {
         running<T, Body> it{body, nullptr};
@@ -337,7 +340,7 @@ public:
         if (!is_gone(result))
             must(result);
     }
-    /* Opens an attribute. Empty if it is not there. */
+    /* Opens an attribute. The result is empty if it is not there. */
     std::optional<open_file> open(const char *path, bool reads, bool writes)
     {
         open_file made;
@@ -357,14 +360,15 @@ public:
         return names;
     }
     /* Writes a line for each callback and each waiting unpublishing at a path or below it: its thread, and for how long
-     * (kt_live_inside()). The number of callbacks. */
+     * (kt_live_inside()). Returns the number of callbacks. */
     std::int32_t inside(const char *path, std::FILE *out)
     {
         return static_cast<std::int32_t>(must(kt_live_inside(raw_, path, out)));
     }
-    /* From now on, an unpublishing that has slept for this time calls the function with such lines, and again each time. The
-     * function must not throw. An empty one prints them to standard error. 0 milliseconds end it. It must be called while
-     * nothing is being unpublished. */
+    /* Makes unpublishings report that they wait. From now on, an unpublishing that has slept for this time calls the
+     * function with such lines, and again each time that it has passed. The function must not throw. If it is empty,
+     * the lines go to standard error. If the time is 0 milliseconds, the reports end. This must be called while nothing
+     * is being unpublished. */
     void warn(std::chrono::milliseconds after, std::function<void(const char *)> function = {})
     {
         warn_ = std::move(function);
@@ -373,7 +377,7 @@ public:
     kt_live *get() noexcept { return raw_; }
 
 private:
-    /* A function that run() runs, and what it has thrown. */
+    /* A function that run() runs, and the exception that it has thrown. */
     template <class T, class Body> struct running {
         Body &body;
         std::exception_ptr thrown;

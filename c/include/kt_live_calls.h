@@ -5,7 +5,8 @@
 #ifndef KT_LIVE_CALLS_H
 #define KT_LIVE_CALLS_H
 
-/* The place on the stack of a callback that runs; 0 if none does. An open file's thread writes this without the lock. */
+/* The place on the stack of a callback that runs; 0 if none does. The thread of an open file writes this without the
+ * lock. */
 static inline uintptr_t kt_live_stack(const struct kt_live_call *call)
 {
     return __atomic_load_n(&call->stack, __ATOMIC_ACQUIRE);
@@ -16,14 +17,14 @@ static inline pthread_t kt_live_thread(const struct kt_live_call *call)
     return __atomic_load_n(&call->thread, __ATOMIC_RELAXED);
 }
 
-/* Whether it is a callback of this thread. (While another thread begins or ends one with an open file, `thread` may be
- * old or new, but it is never this thread.) */
+/* Whether this is a callback of the calling thread. (While another thread begins or ends a callback with an open file,
+ * `thread` may be old or new, but it is never the calling thread.) */
 static inline bool kt_live_is_mine(const struct kt_live_call *call)
 {
     return kt_live_stack(call) && pthread_equal(kt_live_thread(call), pthread_self());
 }
 
-/* This thread begins a callback. Inner callbacks have lower frames. */
+/* Records that this thread begins a callback. Inner callbacks have lower frames. */
 static inline void kt_live_mark(struct kt_live_call *call, char way)
 {
     call->release = NULL;
@@ -33,7 +34,7 @@ static inline void kt_live_mark(struct kt_live_call *call, char way)
     __atomic_store_n(&call->stack, (uintptr_t)__builtin_frame_address(0), __ATOMIC_RELEASE);
 }
 
-/* Why what is at a key cannot be read or written. Under the lock. */
+/* Why the node with this key cannot be read or written. Under the lock. */
 static inline int32_t kt_live_refusal(struct kt_live *live, struct kt_key key, char way)
 {
     struct kt_node_info info;
@@ -47,7 +48,8 @@ static inline int32_t kt_live_refusal(struct kt_live *live, struct kt_key key, c
     return info.mode & (way == 'w' ? 0222 : 0444) ? -EIO : -EACCES;
 }
 
-/* The device, and the attribute if one is read or written. Under the lock. 0, or why there is none. */
+/* Finds the device of a call, and the attribute if one is read or written. Returns 0, or why there is none. Under the
+ * lock. */
 static inline int32_t kt_live_choose(struct kt_live *live, char way, struct kt_live_call *call)
 {
     call->attribute = NULL;
@@ -61,7 +63,7 @@ static inline int32_t kt_live_choose(struct kt_live *live, char way, struct kt_l
     return kt_live_refusal(live, call->key, way);
 }
 
-/* Begins a callback at what is at a path. Without the lock. */
+/* Begins a callback at the node at a path. Without the lock. */
 static inline int32_t kt_live_begin(struct kt_live *live, const char *path, char way, struct kt_live_call *call)
 {
     int32_t answer;
@@ -79,7 +81,7 @@ static inline int32_t kt_live_begin(struct kt_live *live, const char *path, char
         }
     }
     if (!answer) {
-        /* what was entered is live, and so it is published as long as the lock is held or a call runs there */
+        /* a node that was entered is live, so it stays published as long as the lock is held or a call runs there */
         call->live = live;
         call->data = call->device->device;
         call->age = live->age;
@@ -91,7 +93,7 @@ static inline int32_t kt_live_begin(struct kt_live *live, const char *path, char
     return answer;
 }
 
-/* Leaves a call, also one that has stepped aside, which takes its protection again for that. Under the lock. */
+/* Leaves a call. If the call has stepped aside, it takes its protection again for that. Under the lock. */
 static inline void kt_live_leave(struct kt_live_call *call)
 {
     if (call->is_aside)
@@ -101,7 +103,7 @@ static inline void kt_live_leave(struct kt_live_call *call)
     pthread_cond_broadcast(&call->live->lock.left);
 }
 
-/* Ends a callback, also if it does not return (pthread_cleanup_push()). Without the lock. */
+/* Ends a callback, even if the callback does not return (pthread_cleanup_push()). Without the lock. */
 static inline void kt_live_end(void *data)
 {
     struct kt_live_call *call = (struct kt_live_call *)data;
@@ -115,8 +117,8 @@ static inline void kt_live_end(void *data)
         call->release(call->release_data);
 }
 
-/* Runs the show of a call, and ends it. (What runs a callback is a function by itself: gcc warns of arguments that are
- * used after pthread_cleanup_push().) */
+/* Runs the show of a call, and ends the call. (This is a separate function because gcc warns of arguments that are used
+ * after pthread_cleanup_push().) */
 static inline int64_t kt_live_show(struct kt_live_call *call, char *page)
 {
     int64_t length;
@@ -203,10 +205,10 @@ KT_LIVE_CALL struct kt_key kt_live_self(struct kt_live *live)
 
 struct kt_live_file {
     struct kt_live_call call;
-    void *memory; /* where it is */
+    void *memory; /* the block that this is in */
 };
 
-/* A new one in cache lines that nothing else is in: its thread writes it at each read. */
+/* Makes an open file, in cache lines that nothing else is in, because its thread writes it at each read. */
 static inline struct kt_live_file *kt_live_new_file(struct kt_live *live)
 {
     enum { LINE = 64 };
@@ -225,7 +227,7 @@ static inline struct kt_live_file *kt_live_new_file(struct kt_live *live)
     return NULL;
 }
 
-/* Opens the attribute at a path. Under the lock; if it fails, the file may be open. */
+/* Opens the attribute at a path. Under the lock. If this fails, the file may be open. */
 static inline int32_t kt_live_open_at(struct kt_live *live, const char *path, bool read, bool write,
                                       struct kt_live_call *call)
 {
@@ -279,9 +281,10 @@ KT_LIVE_CALL int32_t kt_live_close(struct kt_live_file *file)
     return 0;
 }
 
-/* Ends a callback of an open file, also if it does not return. Without the lock: what this thread has marked is
- * unmarked before it leaves. So a removal that is over, and for which it counted as inside, sees no callback here.
- * Only if it has stepped aside, somebody may wait for it who does not count it as inside, and it takes the lock. */
+/* Ends a callback of an open file, even if the callback does not return. Without the lock: what this thread has marked
+ * is unmarked before it leaves. So a removal that counted this callback as inside sees no callback here once that
+ * removal is over. If the callback has stepped aside, an unpublishing that does not count it as inside may be waiting
+ * for it. Only then is the call left under the lock. */
 static inline void kt_live_end_file(void *data)
 {
     struct kt_live_call *call = &((struct kt_live_file *)data)->call;
@@ -300,7 +303,7 @@ static inline void kt_live_end_file(void *data)
         release(call->release_data);
 }
 
-/* Runs the show of an open file that was entered for it, and keeps its text. */
+/* Runs the show of an open file that was entered for the show, and keeps its text. */
 static inline int64_t kt_live_show_file(struct kt_live_file *file)
 {
     char page[KT_PAGE_SIZE];

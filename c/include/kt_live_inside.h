@@ -5,15 +5,15 @@
 #ifndef KT_LIVE_INSIDE_H
 #define KT_LIVE_INSIDE_H
 
-/* Lines that grow. */
+/* A text that grows line by line. */
 struct kt_live_lines {
     char *at;
     size_t length;
     int32_t count; /* of callbacks */
-    bool is_short; /* there was no memory for one of them, which is left out */
+    bool is_short; /* there was no memory for a line, which is left out */
 };
 
-/* Adds a line: a path, what is there, and in which thread since when. */
+/* Adds a line: a path, what is there, in which thread, and for how long. */
 static inline void kt_live_add_line(struct kt_live *live, struct kt_live_lines *lines, struct kt_key key,
                                     const char *what, pthread_t thread, const char *name, int64_t since)
 {
@@ -48,7 +48,8 @@ static inline const char *kt_live_name(pthread_t thread, char name[32])
     return name;
 }
 
-/* Adds the lines of callbacks and sleeps at a node or below it, and of what keeps a sleep if that is not NULL. */
+/* Adds the lines of callbacks and sleeps at a node or below it. If `sleep` is not NULL, also adds the lines of
+ * callbacks that keep it waiting. */
 static inline void kt_live_add_lines(struct kt_live *live, struct kt_key top, const struct kt_live_sleep *sleep,
                                      struct kt_live_lines *lines)
 {
@@ -105,7 +106,7 @@ KT_LIVE_CALL void kt_live_warn(struct kt_live *live, unsigned milliseconds,
     kt_live_unlock(live);
 }
 
-/* Reports a sleep that has been long. It unlocks meanwhile. */
+/* Reports an unpublishing that has slept for long. It unlocks meanwhile. */
 static inline void kt_live_report(struct kt_live *live, const struct kt_live_sleep *sleep)
 {
     struct kt_live_lines lines = {NULL, 0, 0, false};

@@ -1,6 +1,7 @@
 /* SPDX-License-Identifier: MIT OR Apache-2.0 */
-/* kt_live_removal.h: the parts of kt_live.h that publish and unpublish devices, and say who is inside. It is private to
- * kt_live.h, which includes it. Its functions are called under the lock, except those that kt_live.h declares. */
+/* kt_live_removal.h: the parts of kt_live.h that publish and unpublish devices, and say which thread is inside. It is
+ * private to kt_live.h, which includes it. Its functions are called under the lock, except those that kt_live.h
+ * declares. */
 #include "kt_live.h"
 #ifndef KT_LIVE_REMOVAL_H
 #define KT_LIVE_REMOVAL_H
@@ -20,7 +21,7 @@ static inline bool kt_live_fits(const struct kt_attribute *attributes, size_t co
     return true;
 }
 
-/* Tries again to remove what was never live. 0, -ENOMEM. */
+/* Tries again to remove directories that were never live. Returns 0 or -ENOMEM. */
 static inline int32_t kt_live_sweep(struct kt_live *live)
 {
     while (live->remnants) {
@@ -33,7 +34,7 @@ static inline int32_t kt_live_sweep(struct kt_live *live)
     return 0;
 }
 
-/* Makes the directory of a path, not live. */
+/* Makes the directory at a path, not live. */
 static inline int32_t kt_live_create_dir(struct kt_live *live, const char *path, struct kt_key *out)
 {
     const char *slash = strrchr(path, '/');
@@ -60,7 +61,7 @@ static inline int32_t kt_live_create_files(struct kt_live *live, struct kt_live_
     return answer;
 }
 
-/* The device is found by the keys of its directory and its files. */
+/* From now on, the device is found by the keys of its directory and its files. */
 static inline void kt_live_enroll(struct kt_live *live, struct kt_live_device *it)
 {
     it->next = live->at[it->key.slot].dir;
@@ -143,9 +144,9 @@ static inline bool kt_live_is_below(struct kt_live *live, struct kt_key key, str
     return false;
 }
 
-/* Breaks the protection of this thread's own callbacks at a node or below it: its removal would wait for them. They
- * stay aside until they end: a call breaks its protection only once, and the next unpublishing must not wait for them
- * either. */
+/* Breaks the protection of this thread's own callbacks at a node or below it, because its removal would wait for them.
+ * They stay aside until they end. (A call breaks its protection only once, and the next unpublishing must not wait for
+ * them either.) */
 static inline void kt_live_step_aside(struct kt_live *live, struct kt_key top)
 {
     for (struct kt_live_call *it = live->calls; it; it = it->next)
@@ -154,8 +155,9 @@ static inline void kt_live_step_aside(struct kt_live *live, struct kt_key top)
     pthread_cond_broadcast(&live->lock.left);
 }
 
-/* Whether a callback is aside for an unpublishing in which its thread sleeps, and which may wait for a device's. (One of
- * the same device that is not the first waits for no callback that is aside, and then its callback goes on.) */
+/* Whether a callback has stepped aside for an unpublishing in which its thread sleeps, and which may wait for the
+ * unpublishing of this device. (If it is an unpublishing of the same device and not the first one, it waits for no
+ * callback that has stepped aside, so its own callback goes on.) */
 static inline bool kt_live_gives_way(struct kt_live *live, const struct kt_live_call *call,
                                      const struct kt_live_device *device)
 {
@@ -167,7 +169,8 @@ static inline bool kt_live_gives_way(struct kt_live *live, const struct kt_live_
     return false;
 }
 
-/* Whether a callback may use a device: it is in its code; or it is in the code of one below, is aside, and goes on. */
+/* Whether a callback may use a device: it is in the device's code; or it is in the code of a device below, has stepped
+ * aside, and goes on. */
 static inline bool kt_live_uses(struct kt_live *live, const struct kt_live_call *call,
                                 const struct kt_live_device *device)
 {
@@ -184,7 +187,7 @@ static inline bool kt_live_is_used(struct kt_live *live, const struct kt_live_de
     return false;
 }
 
-/* Whether a callback keeps a sleep waiting. */
+/* Whether a callback keeps an unpublishing that sleeps from ending. */
 static inline bool kt_live_keeps(struct kt_live *live, const struct kt_live_call *call,
                                  const struct kt_live_sleep *sleep)
 {
@@ -194,7 +197,8 @@ static inline bool kt_live_keeps(struct kt_live *live, const struct kt_live_call
            (sleep->device && kt_live_uses(live, call, sleep->device));
 }
 
-/* Whether a sleep waits for a callback whose thread sleeps, and so on, until it is this thread's: none of them ends. */
+/* Whether a sleep waits for a callback whose thread sleeps too, without a time limit, and so on, until the last of
+ * these is this thread. Then none of them ends. */
 static inline bool kt_live_is_circle(struct kt_live *live, struct kt_live_sleep *sleep, pthread_t thread)
 {
     sleep->is_seen = true;
@@ -220,7 +224,8 @@ static inline bool kt_live_never_ends(struct kt_live *live, struct kt_live_sleep
 
 /* ---- unpublishing ---- */
 
-/* A device goes: what is below it, on the way up from another one, is then below what is above it. */
+/* A device is unpublished. On the way up from `it`, the device right below the one that is gone is from now on below
+ * what was above that one. */
 static inline void kt_live_lift(struct kt_live *live, struct kt_live_device *it, const struct kt_live_device *gone)
 {
     while (it && !kt_live_is_same(it->above, gone->key))
@@ -229,8 +234,9 @@ static inline void kt_live_lift(struct kt_live *live, struct kt_live_device *it,
         it->above = gone->above;
 }
 
-/* The device is unpublished: none of this thread's callbacks is its any longer. What is to run once its last callback
- * has ended goes to the outermost of them, or to the unpublishing. */
+/* Forgets a device that is unpublished: no callback and no open file belongs to it any longer. The function that must
+ * run once its last callback has ended is passed to the outermost callback of this thread there or, if there is none,
+ * to the unpublishing. */
 static inline void kt_live_forget(struct kt_live *live, struct kt_live_device *device, struct kt_live_sleep *sleep)
 {
     struct kt_live_device **at = &live->at[device->key.slot].dir;
@@ -274,7 +280,7 @@ static inline void kt_live_doze(struct kt_live *live, int64_t until)
     pthread_cond_timedwait(&live->lock.left, &live->lock.mutex, &at);
 }
 
-/* Sleeps for a moment, without the lock: memory may come. */
+/* Sleeps for a moment, without the lock, in the hope that there is memory then. */
 static inline void kt_live_pause(struct kt_live *live)
 {
     kt_live_unlock(live);
@@ -284,7 +290,7 @@ static inline void kt_live_pause(struct kt_live *live)
 
 static inline void kt_live_report(struct kt_live *live, const struct kt_live_sleep *sleep);
 
-/* Takes out what is claimed, and waits until no callback keeps it. 0, -ETIMEDOUT, -EDEADLK. */
+/* Takes what is claimed out of the tree, and waits until no callback keeps it. Returns 0, -ETIMEDOUT or -EDEADLK. */
 static inline int32_t kt_live_wait_out(struct kt_live *live, struct kt_live_sleep *sleep)
 {
     for (;;) {
@@ -311,14 +317,14 @@ static inline int32_t kt_live_wait_out(struct kt_live *live, struct kt_live_slee
     }
 }
 
-/* Marks a device and takes it out of the tree. As kt_live_unpublish(). */
+/* Marks a device and takes it out of the tree. Returns what kt_live_unpublish() returns. */
 static inline int32_t kt_live_take_out(struct kt_live *live, struct kt_key key, struct kt_live_sleep *sleep)
 {
     struct kt_live_device *device = kt_live_find(live, key);
     int32_t answer = device ? kt_claim(&live->tree, key) : -ENOENT; /* marks it */
     bool is_first;
     kt_keys_check(&live->tree, key);
-    if (!device || (answer < 0 && answer != -ENOENT)) /* (-ENOENT of a device: it went with one above it) */
+    if (!device || (answer < 0 && answer != -ENOENT)) /* (-ENOENT for a device: it was removed with one above it) */
         return answer;
     live->age++;
     kt_live_drop_kept(live);
@@ -347,7 +353,7 @@ static inline int32_t kt_live_take_out(struct kt_live *live, struct kt_key key, 
     return answer ? answer : is_first;
 }
 
-/* Before a wait for the device at a path, or without a path that of a key. */
+/* Before a wait for the device at a path, or for the device with a key if `path` is NULL. */
 static inline void kt_live_order(struct kt_live *live, const char *path, struct kt_key key)
 {
 #ifdef KT_TSAN
@@ -362,7 +368,7 @@ static inline void kt_live_order(struct kt_live *live, const char *path, struct 
 #endif
 }
 
-/* Unpublishes the device at a path, or without a path that of a key. `until` as in a sleep. */
+/* Unpublishes the device at a path, or the device with a key if `path` is NULL. `until` is as in a sleep. */
 static inline int32_t kt_live_end_device(struct kt_live *live, const char *path, struct kt_key key, int64_t until,
                                          void **device)
 {

@@ -5,56 +5,56 @@
 #ifndef KT_LIVE_TREE_H
 #define KT_LIVE_TREE_H
 
-/* What was published. */
+/* A published device. */
 struct kt_live_device {
-    struct kt_live_device *next; /* of those whose directories had the same slot */
+    struct kt_live_device *next; /* the next one whose directory had the same slot */
     struct kt_key key;           /* its directory */
     struct kt_key above;         /* the nearest device above it; 0, 0 if there is none */
     void *device;
     const struct kt_attribute *attributes;
-    struct kt_key *files; /* of each attribute; 0, 0 if it has none */
+    struct kt_key *files; /* of each attribute; 0, 0 if it has no file */
     size_t count;
-    uint64_t nodes; /* the directory and the files */
+    uint64_t nodes; /* how many: the directory and the files */
     kt_live_release *release;
     void *release_data;
     bool is_claimed;
 };
 
-/* What is published at a slot: the devices whose directories had it, and the file that has it. */
+/* What is published at a slot: the devices whose directories had the slot, and the device whose file has it. */
 struct kt_live_slot {
     struct kt_live_device *dir, *owner;
-    size_t attribute; /* which one of the owner */
+    size_t attribute; /* which attribute of the owner */
 };
 
 /* A callback that runs, on the stack of its thread; or an open file, which is in the list as long as it is open. */
 struct kt_live_call {
-    struct kt_live_call *next, **link; /* what points to it */
+    struct kt_live_call *next, **link; /* link: what points to it */
     struct kt_live *live;
     struct kt_handle file;
-    struct kt_live_device *device; /* NULL once that is unpublished */
+    struct kt_live_device *device; /* NULL once the device is unpublished */
     const struct kt_attribute *attribute;
     void *data; /* the program's device */
     struct kt_key key;
     pthread_t thread;
-    uintptr_t stack; /* where its callback runs: that of an inner callback is lower. 0 if none runs */
+    uintptr_t stack; /* where its callback runs: lower for an inner callback. 0 if none runs */
     int64_t since;   /* when the callback began, as kt_live_about_now() */
-    kt_live_release *release; /* what runs once the callback has ended */
+    kt_live_release *release; /* this runs once the callback has ended */
     void *release_data;
     uint32_t age; /* of the tree, when the callback began */
     char way;     /* r: a show, w: a store, x: a function of kt_live_run() */
     bool is_open_file;
-    bool is_aside; /* it has broken its protection, until it ends. Its own thread writes this, under the lock */
+    bool is_aside; /* it has broken its protection, until it ends. Only its thread writes this, under the lock */
 };
 
 /* An unpublishing that sleeps, on the stack of its thread. */
 struct kt_live_sleep {
     struct kt_live_sleep *next, **link;
     struct kt_key key;
-    struct kt_live_device *device; /* whose callbacks it waits for too, or NULL */
+    struct kt_live_device *device; /* the device whose callbacks it waits for too, or NULL */
     pthread_t thread;
     int64_t since, warned, until; /* until: INT64_MAX if it has no time limit */
     bool is_seen;
-    void *data; /* what was unpublished, and what is then to run */
+    void *data; /* what was unpublished, and what must then run */
     kt_live_release *release;
     void *release_data;
 };
@@ -67,17 +67,17 @@ struct kt_live_watcher {
     bool is_there;
 };
 
-/* A hold that no callback uses, for the next one at that node. */
+/* A hold that no callback uses, kept for the next callback at that node. */
 struct kt_live_kept {
     struct kt_key key;
-    struct kt_handle hold; /* at is NULL if there is none */
+    struct kt_handle hold; /* `at` is NULL if there is none */
 };
 enum { KT_LIVE_KEPT = 64 };
 
 static inline void kt_live_lock(struct kt_live *live) { pthread_mutex_lock(&live->lock.mutex); }
 static inline void kt_live_unlock(struct kt_live *live) { pthread_mutex_unlock(&live->lock.mutex); }
 
-/* Puts off that this thread is cancelled. Returns what kt_live_cancel_as() needs. */
+/* Puts off the cancellation of this thread. Returns what kt_live_cancel_as() needs. */
 static inline int kt_live_no_cancel(void)
 {
     int before = 0;
@@ -94,7 +94,7 @@ static inline int64_t kt_live_now(void)
     return (int64_t)at.tv_sec * 1000000 + at.tv_usec;
 }
 
-/* The same, and it may be 4 ms behind: what each callback can afford. */
+/* The same, but it may be 4 ms behind. It is cheap enough for each callback. */
 static inline int64_t kt_live_about_now(void)
 {
 #ifdef CLOCK_REALTIME_COARSE
@@ -106,8 +106,8 @@ static inline int64_t kt_live_about_now(void)
 #endif
 }
 
-/* Compacts the log of the tree if it has 1,000 more than twice as many commands as the tree needs. Without memory the
- * next change tries it again. */
+/* Compacts the log of the tree if it has at least 1,000 more than twice as many commands as kt_compact() leaves at
+ * most. If there is no memory, the next change tries again. */
 static inline void kt_live_tidy(struct kt_live *live)
 {
     struct kt_command_counts commands;
@@ -144,7 +144,7 @@ static inline struct kt_key kt_live_above(struct kt_live *live, struct kt_key ke
     return none;
 }
 
-/* Whether a device is another one or was published below it, also if their directories are out of the tree. */
+/* Whether a device is `top` or was published below it, even if their directories are out of the tree. */
 static inline bool kt_live_is_within(struct kt_live *live, const struct kt_live_device *device,
                                      const struct kt_live_device *top)
 {
@@ -153,8 +153,8 @@ static inline bool kt_live_is_within(struct kt_live *live, const struct kt_live_
     return device != NULL;
 }
 
-/* The device that a file of the tree belongs to, and in `attribute` which one it is; NULL for a file that the program
- * created. */
+/* The device to which a file of the tree belongs; `attribute` gets which attribute of it the file is. NULL for a file
+ * that the program created itself. */
 static inline struct kt_live_device *kt_live_owner(struct kt_live *live, struct kt_key file,
                                                    const struct kt_attribute **attribute)
 {
@@ -183,7 +183,7 @@ static inline void kt_live_delist(struct kt_live_call *call)
 
 /* ---- holds ---- */
 
-/* Frees the holds that are kept, so that they keep no slot. */
+/* Frees the holds that are kept, so that they keep no slot from being reused. */
 static inline void kt_live_drop_kept(struct kt_live *live)
 {
     for (size_t i = 0; i < KT_LIVE_KEPT; i++) {
@@ -196,7 +196,7 @@ static inline void kt_live_drop_kept(struct kt_live *live)
     }
 }
 
-/* A hold of the node of a call, kept or new. 0, or as kt_hold(). */
+/* Gives a call a hold of its node, a kept one or a new one. Returns 0, or fails like kt_hold(). */
 static inline int32_t kt_live_take_hold(struct kt_live *live, struct kt_live_call *call)
 {
     struct kt_live_kept *kept = &live->kept[call->key.slot % KT_LIVE_KEPT];
@@ -215,7 +215,8 @@ static inline int32_t kt_live_take_hold(struct kt_live *live, struct kt_live_cal
     return answer;
 }
 
-/* The hold of a call is not needed any longer. It is kept if no unpublishing has begun meanwhile. */
+/* Called when the hold of a call is no longer needed. The hold is kept if `is_good`, if no unpublishing has begun
+ * meanwhile, and if its place is empty. Otherwise it is freed. */
 static inline void kt_live_put_hold(struct kt_live *live, struct kt_live_call *call, bool is_good)
 {
     struct kt_live_kept *kept = &live->kept[call->key.slot % KT_LIVE_KEPT];
@@ -231,7 +232,7 @@ static inline void kt_live_put_hold(struct kt_live *live, struct kt_live_call *c
 
 /* ---- the tree ---- */
 
-/* The handles and the tree of a new struct. 0, -ENOMEM. */
+/* Makes the handles and the tree of a new struct. Returns 0 or -ENOMEM. */
 static inline int32_t kt_live_start(struct kt_live *live)
 {
     int32_t answer = kt_new(&live->tree.at);

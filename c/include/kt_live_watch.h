@@ -7,7 +7,7 @@
 
 /* ---- watches ---- */
 
-/* Makes a watch's descriptor readable. It may be so already, and then the write is refused and nothing is lost. */
+/* Makes a watch's descriptor readable. If it is readable already, the write may be refused, and nothing is lost. */
 static inline void kt_live_raise(struct kt_live_watcher *watch)
 {
     uint64_t one = 1;
@@ -22,7 +22,8 @@ static inline bool kt_live_is_there(struct kt_live *live, struct kt_key key)
     return !kt_stat(&live->tree, key, &info) && info.activated && !info.doomed;
 }
 
-/* Looks again for the node of a watch, if it is no longer the same. Whether a node has come or gone. */
+/* Looks for the node of a watch again, unless the node that it had is still there. Returns whether a node has come or
+ * gone. */
 static inline bool kt_live_look_again(struct kt_live *live, struct kt_live_watcher *watch)
 {
     bool was_there = watch->is_there;
@@ -32,7 +33,7 @@ static inline bool kt_live_look_again(struct kt_live *live, struct kt_live_watch
     return was_there || watch->is_there;
 }
 
-/* Makes each watch readable whose node has gone or come, once. */
+/* Makes each watch readable whose node has gone or come since the last look. */
 static inline void kt_live_raise_changed(struct kt_live *live)
 {
     for (struct kt_live_watcher *it = live->watches; it; it = it->next)
@@ -104,7 +105,7 @@ KT_LIVE_CALL int32_t kt_live_notify(struct kt_live *live, struct kt_key device, 
         answer = kt_notify(&live->post);
         kt_clear(&live->post);
     }
-    /* (no watch was raised when a file came that the program created itself) */
+    /* (no watch was updated when the program itself created a file) */
     is_own = !answer && !kt_live_owner(live, key, &attribute);
     for (struct kt_live_watcher *it = live->watches; it && !answer; it = it->next) {
         if (is_own)

@@ -1,16 +1,17 @@
 /* SPDX-License-Identifier: MIT OR Apache-2.0 */
-/* kt_order.h: what ThreadSanitizer's detector of deadlocks learns about programs that use kernfs_tree.h; kt_check.h
- * includes this. To it a node is a lock, which a call has for reading and which a removal or a hiding takes for
- * writing. So it reports this order, also in a run that does not hang, because the remover came after the callback:
+/* kt_order.h: what ThreadSanitizer's deadlock detector learns about programs that use kernfs_tree.h; kt_check.h
+ * includes this. To the detector a node is a lock, which a call holds for reading, and which a removal or a hiding
+ * takes for writing. So it reports the following order, even in a run that does not hang because the remover came after
+ * the callback:
  *
  *     callback: in a call of a node, locks a mutex          remover: has that mutex locked, and waits for the node
  *
  * It looks at kt_remove_wait(), kt_remove_self_wait(), kt_remove_gated_wait(), kt_hide_wait(), kt_live_unpublish() and
- * kt_shut_wait(), and not at waits with a time limit. A gate is such a lock too, which a pass that is inside has for
- * reading and kt_shut_wait() takes for writing. If one of them waits for a node or a gate that its own thread is inside,
- * the program is aborted with a message: it would wait for itself. (Not so kt_remove_self_wait() and
- * kt_live_unpublish(), before which this thread's own calls step aside.) If another thread leaves a call than the one
- * that entered it, nothing is reported about it. */
+ * kt_shut_wait(), and not at waits with a time limit. A gate is such a lock too: a pass that is inside holds it for
+ * reading, and kt_shut_wait() takes it for writing. If one of these functions waits for a node or a gate that its own
+ * thread is inside, the program is aborted with a message, because it would wait for itself. (This does not hold for
+ * kt_remove_self_wait() and kt_live_unpublish(), before which this thread's own calls step aside.) If a thread leaves a
+ * call that another thread entered, nothing is reported about that call. */
 #include "kernfs_tree.h"
 #ifndef KT_ORDER_H
 #define KT_ORDER_H
@@ -25,10 +26,10 @@ void __tsan_mutex_pre_lock(void *at, unsigned flags);
 void __tsan_mutex_post_lock(void *at, unsigned flags, int recursion);
 int __tsan_mutex_pre_unlock(void *at, unsigned flags);
 void __tsan_mutex_post_unlock(void *at, unsigned flags);
-/* for reading; and tried, so never waited for: nobody waits to enter */
+/* for reading; and as a try-lock, because nobody waits to enter */
 enum { KT_ORDER_READ = 1 << 3, KT_ORDER_TRIED = KT_ORDER_READ | 1 << 4, KT_ORDER_FAILED = 1 << 5, KT_ORDER_CALLS = 16 };
 
-/* A call that this thread is inside: the nodes and the gate that it is inside, and which of them it has locked here. */
+/* A call that this thread is inside: the nodes and the gate that it is inside, and which of them are locked for it. */
 struct kt_order_call {
     void *at;
     uint64_t turn;
@@ -93,7 +94,7 @@ KT_UNSEEN void kt_order_prune(void)
     }
 }
 
-/* After a call was entered. (The root is no lock: nobody removes it.) */
+/* After a call was entered. (The root is not a lock, because nobody removes it.) */
 KT_UNSEEN void kt_order_entered(void *at)
 {
     struct kt_told_handle *it = kt_told_find(at, false);
@@ -123,8 +124,8 @@ KT_UNSEEN void kt_order_left(void *at)
     kt_order_prune();
 }
 
-/* Before a wait for the node or the gate of a place, without the tree's lock. If there is no text, this thread's own calls
- * there are broken meanwhile; otherwise the program is aborted with the text. */
+/* Before a wait for the node or the gate of a place, without the tree's lock. If `text` is NULL, this thread's own
+ * calls there are broken meanwhile; if there are any and there is a text, the program is aborted with the text. */
 KT_UNSEEN void kt_order_waits_at(unsigned node, const char *text)
 {
     kt_order_prune();

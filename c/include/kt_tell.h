@@ -1,6 +1,6 @@
 /* SPDX-License-Identifier: MIT OR Apache-2.0 */
 /* kt_tell.h: error texts and a tree dump for programs that use kernfs_tree.h, which includes this. It is C over the
- * calls there, tested, not proved. What takes a tree is called under its lock. */
+ * calls there: tested, not proved. A function that takes a tree is called under the tree's lock. */
 #include "kernfs_tree.h"
 #ifndef KT_TELL_H
 #define KT_TELL_H
@@ -8,7 +8,7 @@
 #include <stdio.h>
 #include <string.h>
 
-/* What a negative result means, as a text without a newline; for other numbers too. */
+/* Describes a negative result in a text without a newline. There is a text for every other number too. */
 static inline const char *kt_strerror(int64_t number)
 {
     switch (number) {
@@ -65,14 +65,14 @@ struct kt_child {
     uint16_t mode; /* of a file */
 };
 
-/* The live children of a directory one after another, in byte order, by kt_next(). `at` is the cursor and the result:
- * its name is empty at first, then the last name. The lock may be released between two calls.
+/* Lists the live children of a directory one after another, in byte order, by kt_next(). `at` is the cursor and the
+ * result: its name is empty at first, and later the last name. The lock may be released between two calls.
  *
  *     struct kt_child at = {.name = ""};
  *     while (kt_list(tree, dir, &at) == 1)
  *         puts(at.name);
  *
- * 1; 0 at the end; -ENOENT, -ENOTDIR, -ENOMEM. Unless it returns 1, `at` is as it was. */
+ * Returns 1, 0 at the end, -ENOENT, -ENOTDIR or -ENOMEM. Unless it returns 1, `at` is as it was. */
 static inline int32_t kt_list(struct kt_handle *tree, struct kt_key dir, struct kt_child *at)
 {
     char name[KT_NAME_MAX];
@@ -98,7 +98,7 @@ static inline int32_t kt_list(struct kt_handle *tree, struct kt_key dir, struct 
     return 1;
 }
 
-/* For kt_dump(): the line of a node. */
+/* Writes the line of a node, for kt_dump(). */
 static inline int32_t kt_dump_line(struct kt_handle *tree, const struct kt_child *at, int depth, FILE *out)
 {
     struct kt_node_info stat;
@@ -129,9 +129,9 @@ static inline int32_t kt_dump_line(struct kt_handle *tree, const struct kt_child
     return 0;
 }
 
-/* Writes the live nodes below a directory, a line each, indented below its directory's: a directory with a slash, a
- * file with its mode and tag, a link with its target's name and slot. If a node is held, its line says how often, and
- * how many of the holds are inside. 0, -ENOENT, -ENOTDIR, -ENOMEM. */
+/* Writes the live nodes below a directory, one line for each, indented below the line of its directory: a directory
+ * with a slash, a file with its mode and tag, a link with its target's name and slot. If a node is held, its line says
+ * how often, and how many of the holds are inside. Returns 0, -ENOENT, -ENOTDIR or -ENOMEM. */
 static inline int32_t kt_dump(struct kt_handle *tree, struct kt_key top, FILE *out)
 {
     struct kt_key dir = top;
@@ -148,7 +148,7 @@ static inline int32_t kt_dump(struct kt_handle *tree, struct kt_key top, FILE *o
                 at.name[0] = 0;
                 depth++;
             }
-        } else if (!answer && depth--) { /* no more: on behind this directory, in the one above it */
+        } else if (!answer && depth--) { /* no other child: go on after this directory, in the one above it */
             answer = kt_name(tree, dir, at.name, KT_NAME_MAX);
             if (answer >= 0) {
                 at.name[answer] = 0;

@@ -3,9 +3,9 @@
  *
  * What a call did happens before what follows the removal or the hiding of its node, or the removal of a node above it,
  * once that has returned 0 or more. What was done inside by a pass also happens before what follows kt_shut() of its
- * gate, once that has returned 0 or more. What was done before kt_activate() and kt_unhide() happens before what follows a
- * kt_enter() there, or a kt_pass_enter(). This is kept for each node: a race of the program between callbacks of two nodes is still reported,
- * even if another node was removed in between.
+ * gate, once that has returned 0 or more. What was done before kt_activate() and kt_unhide() happens before what
+ * follows a kt_enter() or a kt_pass_enter() there. This is tracked for each node, so a race of the program between
+ * callbacks of two nodes is still reported, even if another node was removed in between.
  *
  * If kt_rename() has moved a node, or a node more than 11 levels below the root is held, all nodes of the tree count as
  * one. If a program has more handles than there is room for here, all nodes of the program count as one. The table here
@@ -31,22 +31,23 @@ struct kt_told_handle {
     void *at; /* of the handle, or NULL */
     uint64_t turn; /* of its call, or 0 (kt_order.h) */
     unsigned count, nodes[KT_TOLD_DEPTH];
-    unsigned gate; /* of a gate and its passes: 1 + its place among those of the nodes; else 0 */
+    unsigned gate; /* of a gate and its passes: 1 + the gate's place among those of the nodes; otherwise 0 */
 };
 
-/* Places that stand for nodes: released and acquired by the sanitizer, and else not used. Two nodes may have one. */
+/* Places that stand for nodes. The sanitizer releases and acquires them, and they have no other use. Two nodes may
+ * share a place. */
 struct kt_told_program {
     uint64_t left[KT_TOLD_NODES], shown[KT_TOLD_NODES];
-    unsigned char is_one[KT_TOLD_NODES]; /* at a root's place: the tree's nodes are taken for one */
+    unsigned char is_one[KT_TOLD_NODES]; /* at a root's place: the tree's nodes count as one */
     struct kt_told_handle handles[KT_TOLD_HANDLES];
     uint64_t turns;
 };
 __attribute__((weak)) struct kt_told_program kt_told;
-/* of handles that are not in the table */
+/* for handles that are not in the table */
 #define KT_LEFT ((void *)(uintptr_t)&kt_new)
 #define KT_SHOWN ((void *)(uintptr_t)&kt_unhide)
 
-/* The table is not looked at by the sanitizer, and its steps order nothing for it. */
+/* The sanitizer does not look at accesses to the table, and they order nothing for it. */
 #define KT_UNSEEN static __attribute__((noinline, unused, no_sanitize("thread")))
 
 static inline unsigned kt_told_place(const void *tree, struct kt_key key)
@@ -72,7 +73,7 @@ static inline void kt_told_make_one(const void *tree)
     __atomic_store_n(&kt_told.is_one[kt_told_root(tree)], 1, __ATOMIC_RELAXED);
 }
 
-/* The entry of a handle; if there is none, a free one for it if `made`, else NULL. */
+/* Finds the entry of a handle. If there is none, takes a free one for it if `made`, and otherwise returns NULL. */
 KT_UNSEEN struct kt_told_handle *kt_told_find(void *at, bool made)
 {
     unsigned first = (unsigned)((uint64_t)(uintptr_t)at * 0x9e3779b97f4a7c15u >> 48);
@@ -88,7 +89,7 @@ KT_UNSEEN struct kt_told_handle *kt_told_find(void *at, bool made)
     return it;
 }
 
-/* A new handle, or a handle with nothing behind it. */
+/* Records a new handle, or that a handle has nothing behind it. */
 KT_UNSEEN void kt_told_empty(void *at, bool made)
 {
     struct kt_told_handle *it = kt_told_find(at, made);
@@ -103,7 +104,7 @@ KT_UNSEEN void kt_told_delete(void *at)
         __atomic_store_n(&it->at, (void *)NULL, __ATOMIC_RELAXED);
 }
 
-/* A handle that holds a node now. Under the tree's lock. */
+/* Records that a handle now holds a node. Under the tree's lock. */
 KT_UNSEEN void kt_told_hold(struct kt_handle *tree, struct kt_key key, void *at)
 {
     struct kt_told_handle *it = kt_told_find(at, false);
@@ -120,7 +121,8 @@ KT_UNSEEN void kt_told_hold(struct kt_handle *tree, struct kt_key key, void *at)
     it->nodes[it->count++] = kt_told_root(tree->at);
 }
 
-/* A handle now holds the node of another one. If that one is not in the table, this one leaves the table too. */
+/* Records that a handle now holds the node of another one. If that one is not in the table, this one leaves the table
+ * too. */
 KT_UNSEEN void kt_told_dup(void *hold, void *other)
 {
     struct kt_told_handle *from = kt_told_find(hold, false), *to = kt_told_find(other, false);
@@ -134,7 +136,7 @@ KT_UNSEEN void kt_told_dup(void *hold, void *other)
         kt_told_delete(other);
 }
 
-/* A gate was made of the node that a handle holds, and its first pass. */
+/* Records that a gate was made of the node that a handle holds, with its first pass. */
 KT_UNSEEN void kt_told_gate(void *hold, void *pass)
 {
     struct kt_told_handle *it = kt_told_find(hold, false);
@@ -166,7 +168,7 @@ KT_UNSEEN void kt_told_acquire(void *at)
         __tsan_acquire(&kt_told.shown[it->nodes[i]]);
 }
 
-/* After a gate is closed, of its handle, which has a hold again. */
+/* After a gate is closed: records that its handle has a hold again. */
 KT_UNSEEN void kt_told_closed(void *at)
 {
     struct kt_told_handle *it = kt_told_find(at, false);

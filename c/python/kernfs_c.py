@@ -63,7 +63,7 @@ class Stat(ctypes.Structure):
 
 
 class Commands(ctypes.Structure):
-    """How many commands the log of a tree has, and would have after a compaction."""
+    """How many commands the log of a tree has, and would have at most after a compaction."""
 
     _fields_ = [("stored", ctypes.c_uint64), ("compacted", ctypes.c_uint64)]
 

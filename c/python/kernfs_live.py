@@ -192,7 +192,7 @@ class Live:
         self._warn_after, self._warn = None, None
 
     def close(self):
-        """Frees the tree. KtError with EBUSY: a device is published, something is watched, or a callback runs."""
+        """Frees the tree. KtError with EBUSY: a device is published, something is watched or open, or a callback runs."""
         if self._at:
             must(library.kt_live_delete(self._at))
         self._at = ctypes.c_void_p()

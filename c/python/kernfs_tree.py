@@ -224,7 +224,7 @@ class Tree(_Owner):
         return must(library.kt_bind_remove_self(*words)) == 1
 
     def claim(self, key):
-        """Whether this is the first to claim the node's removal."""
+        """Marks a node and everything below it. Whether this is the first to claim the node's removal."""
         return self._call("claim", key) == 0
 
     def compact(self):

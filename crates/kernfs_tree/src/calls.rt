@@ -1,5 +1,5 @@
-//! The calls on handles, trees and event numbers. Each returns 0 or more, or a Linux error number below 0,
-//! and then nothing changed.
+//! The calls on handles, trees and event numbers. Each returns 0 or more on success. On failure it returns a
+//! negative Linux error number, and nothing has changed.
 ghost use Rattle.std.specs.Prelude.{◌≡◌, ◌≢◌, ◌⊎◌, ◌<◌, ◌≤◌, pos, negsuc, true, false, IfSome, IsSome};
 ghost use Rattle.kf_core.specs.declared.key.Node.TheVariants as kind;
 ghost use Rattle.kf_handles.specs.declared.object.Object.TheVariants as behind;
@@ -23,7 +23,7 @@ pub extern "C" fn kt_version() -> i32
     4
 }
 
-/// A new handle with nothing behind it, which is the caller's then.
+/// Makes a handle with nothing behind it. The caller owns the handle.
 #[unsafe(no_mangle)]
 pub extern "C" fn kt_new(alloc: Global, out: &mut KtGiven) -> i32
     ensures given { result ≡ pos 0 → IfSome out.new.place IsNothing × IsSome out.new.place }
@@ -32,8 +32,9 @@ pub extern "C" fn kt_new(alloc: Global, out: &mut KtGiven) -> i32
     kf_handles::make(alloc, out)
 }
 
-/// Frees a handle and what lies behind it; not of a tree with a hidden file in which somebody may be, of an
-/// open gate, and of a pass that is inside.
+/// Frees a handle and what is behind it. Returns 1 if a removal or a hiding may be waiting for that. Fails
+/// with -EBUSY for a tree with a hidden file that somebody may be inside, a gate that is not closed, or a
+/// pass that is inside.
 #[unsafe(no_mangle)]
 pub extern "C" fn kt_delete(handle: KtHandle) -> i32
     ensures gone { (result ≡ pos 0) ⊎ (result ≡ pos 1) → IsNotInUse handle.place.object }
@@ -44,9 +45,9 @@ pub extern "C" fn kt_delete(handle: KtHandle) -> i32
     kf_handles::delete(handle)
 }
 
-/// Frees what lies behind a handle: a hold is released, and a call ended first. 1 if a removal or a hiding
-/// may wait for that. A tree with a hidden file in which somebody may be stays, and so do an open gate and a
-/// pass that is inside.
+/// Frees what is behind a handle: a hold is released, and a call is ended first. Returns 1 if a removal or a
+/// hiding may be waiting for that. Fails with -EBUSY, and frees nothing, for a tree with a hidden file that
+/// somebody may be inside, a gate that is not closed, or a pass that is inside.
 #[unsafe(no_mangle)]
 pub extern "C" fn kt_clear(handle: &mut KtHandle) -> i32
     ensures empty { (result ≡ pos 0) ⊎ (result ≡ pos 1) →
@@ -58,7 +59,7 @@ pub extern "C" fn kt_clear(handle: &mut KtHandle) -> i32
     kf_handles::clear(handle)
 }
 
-/// A new tree of only the root (`kernfs_create_root`).
+/// Makes a tree with only the root (`kernfs_create_root`), behind a handle with nothing behind it.
 #[unsafe(no_mangle)]
 pub extern "C" fn kt_create_root(
     alloc: Global,
@@ -86,7 +87,7 @@ pub extern "C" fn kt_root(tree: &mut KtHandle, out: &mut KtKey) -> i32
     kf_handles::root(tree, out)
 }
 
-/// A new directory (`kernfs_create_dir_ns`).
+/// Creates a directory (`kernfs_create_dir_ns`).
 #[unsafe(no_mangle)]
 pub extern "C" fn kt_create_dir(
     tree: &mut KtHandle,
@@ -107,7 +108,7 @@ pub extern "C" fn kt_create_dir(
     kf_handles::create(tree, parent, name, Node::Dir, live, out)
 }
 
-/// A new attribute file (`__kernfs_create_file`), whose mode has only permission bits.
+/// Creates an attribute file (`__kernfs_create_file`). Its mode may have only permission bits (0777).
 #[unsafe(no_mangle)]
 pub extern "C" fn kt_create_file(
     tree: &mut KtHandle,
@@ -132,7 +133,7 @@ pub extern "C" fn kt_create_file(
     kf_handles::create_file(tree, parent, name, mode, tag, live, out)
 }
 
-/// A new link to a node (`kernfs_create_link`).
+/// Creates a link to a node (`kernfs_create_link`).
 #[unsafe(no_mangle)]
 pub extern "C" fn kt_create_link(
     tree: &mut KtHandle,
@@ -192,7 +193,7 @@ pub extern "C" fn kt_rename(tree: &mut KtHandle, key: KtKey, dir: KtKey, name: &
     kf_handles::change(tree, question)
 }
 
-/// The child of this name, live or not (`kernfs_find_ns`).
+/// Finds the child with this name, live or not (`kernfs_find_ns`).
 #[unsafe(no_mangle)]
 pub extern "C" fn kt_find(tree: &mut KtHandle, dir: KtKey, name: &[u8], out: &mut KtKey) -> i32
     ensures same { tree.new.place ≡ tree.old.place }
@@ -201,7 +202,7 @@ pub extern "C" fn kt_find(tree: &mut KtHandle, dir: KtKey, name: &[u8], out: &mu
     kf_handles::find(tree, dir, name, out)
 }
 
-/// The node that a path names, live or not (`kernfs_walk_ns`).
+/// Finds the node that a path names, live or not (`kernfs_walk_ns`).
 #[unsafe(no_mangle)]
 pub extern "C" fn kt_walk(tree: &mut KtHandle, path: &[u8], out: &mut KtKey) -> i32
     ensures same { tree.new.place ≡ tree.old.place }
@@ -210,7 +211,8 @@ pub extern "C" fn kt_walk(tree: &mut KtHandle, path: &[u8], out: &mut KtKey) -> 
     kf_handles::walk(tree, path, out)
 }
 
-/// The name of the first live child above a name, in byte order; of the first of all if it is empty.
+/// The name of the first live child after the name `after`, in byte order. An empty `after` comes before each
+/// name.
 #[unsafe(no_mangle)]
 pub extern "C" fn kt_next(tree: &mut KtHandle, dir: KtKey, after: &[u8], out: &mut [u8]) -> i64
     ensures same { tree.new.place ≡ tree.old.place }
@@ -220,7 +222,7 @@ pub extern "C" fn kt_next(tree: &mut KtHandle, dir: KtKey, after: &[u8], out: &m
     kf_handles::next(tree, dir, after, out)
 }
 
-/// What is reported of a node.
+/// Gets the stat of a node.
 #[unsafe(no_mangle)]
 pub extern "C" fn kt_stat(tree: &mut KtHandle, key: KtKey, out: &mut KtStat) -> i32
     ensures same { tree.new.place ≡ tree.old.place }
@@ -268,7 +270,7 @@ pub extern "C" fn kt_path(tree: &mut KtHandle, key: KtKey, out: &mut [u8]) -> i6
     kf_handles::path(tree, key, out)
 }
 
-/// Makes the list of the stored commands as short as may be.
+/// Replaces the stored commands by the tree's canonical list of commands.
 #[unsafe(no_mangle)]
 pub extern "C" fn kt_compact(tree: &mut KtHandle) -> i32
     ensures compacted { result ≡ pos 0 → CompactedIn tree.old.place.object tree.new.place.object }
@@ -281,7 +283,8 @@ pub extern "C" fn kt_compact(tree: &mut KtHandle) -> i32
     kf_handles::change(tree, Question::Compact)
 }
 
-/// How many commands the tree stores, and how many it would at most after a compaction, in constant time.
+/// Gets how many commands the tree stores, and how many it would store at most after a compaction. This takes
+/// constant time.
 #[unsafe(no_mangle)]
 pub extern "C" fn kt_commands(tree: &mut KtHandle, out: &mut KtCommands) -> i32
     ensures same { tree.new.place ≡ tree.old.place }
@@ -290,7 +293,7 @@ pub extern "C" fn kt_commands(tree: &mut KtHandle, out: &mut KtCommands) -> i32
     kf_handles::commands(tree, out)
 }
 
-/// A hold of a node, behind a handle with nothing behind it (`kernfs_get`).
+/// Takes a hold of a node (`kernfs_get`), behind a handle with nothing behind it.
 #[unsafe(no_mangle)]
 pub extern "C" fn kt_hold(tree: &mut KtHandle, key: KtKey, out: &mut KtHandle) -> i32
     ensures held { result ≡ pos 0 → HoldsNode tree.old.place.object key out.new.place.seat
@@ -306,7 +309,7 @@ pub extern "C" fn kt_hold(tree: &mut KtHandle, key: KtKey, out: &mut KtHandle) -
     kf_handles::hold(tree, key, out)
 }
 
-/// How many hold and use a node, as one load of each of its two words found it.
+/// Counts the holds and the users of a node, by one load of each of its two words.
 #[unsafe(no_mangle)]
 pub extern "C" fn kt_counts(tree: &mut KtHandle, key: KtKey, out: &mut KtCounts) -> i32
     ensures counted { result ≡ pos 0 →
@@ -320,7 +323,7 @@ pub extern "C" fn kt_counts(tree: &mut KtHandle, key: KtKey, out: &mut KtCounts)
     kf_handles::counts(tree, key, out)
 }
 
-/// A post of the slot of a node, behind a handle with nothing behind it.
+/// Opens a post (event counter) of a node's slot, behind a handle with nothing behind it.
 #[unsafe(no_mangle)]
 pub extern "C" fn kt_event_open(tree: &mut KtHandle, key: KtKey, out: &mut KtHandle) -> i32
     ensures posted { result ≡ pos 0 →

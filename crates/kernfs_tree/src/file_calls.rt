@@ -1,4 +1,4 @@
-//! The calls of a program on open files. Each returns 0 or more, or a Linux error number below 0.
+//! The calls on open files. Each returns 0 or more, or a negative Linux error number.
 ghost use Rattle.std.specs.Prelude.{◌≡◌, ◌≢◌, pos, negsuc, true, false, length};
 ghost use Rattle.kf_handles.specs.Answers.{IsAsBefore};
 ghost use Rattle.kf_handles.specs.Calls.{IsNothing, is_nothing, key_in};
@@ -34,8 +34,8 @@ pub extern "C" fn kt_open(
     kf_handles::open(alloc, tree, key, Want { read, write }, out)
 }
 
-/// Begins a read (`kernfs_fop_read_iter`): 0 if the text serves it; 1 if the node was entered, and the
-/// event number taken, for a show.
+/// Begins a read (`kernfs_fop_read_iter`). Returns 0 if the file's text serves the read, and 1 if the node
+/// was entered, and the event number taken, for a show.
 #[unsafe(no_mangle)]
 pub extern "C" fn kt_begin_read(file: &mut KtHandle, offset: u64) -> i32
     ensures served { result ≡ pos 0 →
@@ -48,7 +48,7 @@ pub extern "C" fn kt_begin_read(file: &mut KtHandle, offset: u64) -> i32
     kf_handles::begin_read(file, offset)
 }
 
-/// Keeps the text that a show made, of at most 4,095 bytes, in the call that began it.
+/// Keeps the text that a show made, at most 4,095 bytes of it, in the call that began the show.
 #[unsafe(no_mangle)]
 pub extern "C" fn kt_shown(file: &mut KtHandle, text: &[u8]) -> i32
     ensures kept { result ≡ pos 0 → HasShown text.now file.old.place file.new.place }
@@ -59,7 +59,7 @@ pub extern "C" fn kt_shown(file: &mut KtHandle, text: &[u8]) -> i32
     kf_handles::shown(file, text)
 }
 
-/// Copies the text from the offset on, as much as there is room for.
+/// Copies the text from an offset on, as far as there is room, and returns the number of bytes.
 #[unsafe(no_mangle)]
 pub extern "C" fn kt_copy(file: &mut KtHandle, offset: u64, out: &mut [u8]) -> i64
     ensures told { TellsText (TextFrom file.old.place.object offset (length out.old))
@@ -69,7 +69,7 @@ pub extern "C" fn kt_copy(file: &mut KtHandle, offset: u64, out: &mut [u8]) -> i
     kf_handles::copy(file, offset, out)
 }
 
-/// Begins a write (`kernfs_fop_write_iter`): 0 if the node was entered for a store.
+/// Begins a write (`kernfs_fop_write_iter`). Returns 0 if the node was entered for a store.
 #[unsafe(no_mangle)]
 pub extern "C" fn kt_begin_write(file: &mut KtHandle) -> i32
     ensures entered { result ≡ pos 0 → MayWrite file.old.place.object
@@ -81,7 +81,8 @@ pub extern "C" fn kt_begin_write(file: &mut KtHandle) -> i32
     kf_handles::begin_write(file)
 }
 
-/// Whether a file has changed since its last show (`kernfs_fop_poll`), asked in a call of it.
+/// Returns 1 if a file has changed since its last show (`kernfs_fop_poll`), and 0 if not. Fails with -EINVAL
+/// unless the handle has a file and a running call.
 #[unsafe(no_mangle)]
 pub extern "C" fn kt_changed(file: &mut KtHandle) -> i32
     ensures same { result ≡ pos 0 → WasPolled false file.old.place file.new.place }

@@ -1,4 +1,4 @@
-//! The calls on gates and passes: a node that many threads call.
+//! The calls on gates and passes, for a node that many threads call.
 ghost use Rattle.std.specs.Prelude.{◌≡◌, ◌≢◌, ◌⊎◌, false, true, pos, negsuc};
 ghost use Rattle.kf_gates.specs.States.{IsLanes};
 ghost use Rattle.kf_handles.specs.declared.object.Object.TheVariants as behind;
@@ -10,8 +10,8 @@ ghost use Rattle.kf_handles.specs.LookUps.{IsRefusal};
 use kf_handles::KtHandle;
 use std::alloc::Global;
 
-/// Makes a gate of a hold's node: it enters by the hold, and the gate keeps that call. The hold's handle has
-/// the gate then, and a handle with nothing behind it gets the gate's first pass.
+/// Makes a gate of a hold's node: the hold becomes a call, which the gate keeps. After that the hold's handle
+/// has the gate. The handle `pass`, which has nothing behind it, gets the gate's first pass.
 #[unsafe(no_mangle)]
 pub extern "C" fn kt_gate(
     alloc: Global,
@@ -36,8 +36,8 @@ pub extern "C" fn kt_gate(
     kf_handles::gate(alloc, hold, lanes, pass)
 }
 
-/// Another pass of a pass's gate, by the lane of this number modulo the number of lanes, behind a handle with
-/// nothing behind it.
+/// Makes another pass of a pass's gate, behind a handle with nothing behind it. Its lane is the one with this
+/// number, modulo the number of lanes.
 #[unsafe(no_mangle)]
 pub extern "C" fn kt_pass(pass: &mut KtHandle, lane: u32, other: &mut KtHandle) -> i32
     ensures made { result ≡ pos 0 → MadePass pass.old.place.object lane other.new.place.object
@@ -54,7 +54,7 @@ pub extern "C" fn kt_pass(pass: &mut KtHandle, lane: u32, other: &mut KtHandle) 
     kf_handles::pass(pass, lane, other)
 }
 
-/// Goes inside by a pass (`percpu_ref_tryget_live`): 0, or -ENODEV if the gate is shut.
+/// Goes inside by a pass (`percpu_ref_tryget_live`). Returns 0, or -ENODEV if the gate is shut.
 #[unsafe(no_mangle)]
 pub extern "C" fn kt_pass_enter(pass: &mut KtHandle) -> i32
     ensures entered { result ≡ pos 0 → PassedIn pass.old.place.object pass.new.place.object }
@@ -64,7 +64,8 @@ pub extern "C" fn kt_pass_enter(pass: &mut KtHandle) -> i32
     kf_handles::pass_enter(pass)
 }
 
-/// Goes out again (`percpu_ref_put`): 0, or 1 if the gate is shut, so that its owner may wait for that.
+/// Leaves by a pass (`percpu_ref_put`). Returns 1 if the gate was found shut after that, since the gate's
+/// owner may be waiting for callers to leave, and 0 otherwise.
 #[unsafe(no_mangle)]
 pub extern "C" fn kt_pass_leave(pass: &mut KtHandle) -> i32
     ensures left { (result ≡ pos 0) ⊎ (result ≡ pos 1) →
@@ -77,9 +78,10 @@ pub extern "C" fn kt_pass_leave(pass: &mut KtHandle) -> i32
     kf_handles::pass_leave(pass)
 }
 
-/// Shuts a gate (`percpu_ref_kill`), and looks whether nobody is inside. 0 or 1 if so: then the gate's call
-/// is ended, its handle has the hold again, and 1 says that a removal or a hiding may wait for that. -EAGAIN
-/// if its look found somebody inside: the gate is shut then, and the call is made again.
+/// Shuts a gate (`percpu_ref_kill`), and looks whether anybody is inside. If nobody is, it ends the gate's
+/// call, and the handle has the hold again. It then returns 1 if a removal or a hiding may be waiting for
+/// that, and 0 otherwise. If it found somebody inside, it returns -EAGAIN: the gate is shut, and the caller
+/// must call `kt_shut` again.
 #[unsafe(no_mangle)]
 pub extern "C" fn kt_shut(gate: &mut KtHandle) -> i32
     ensures shut { (result ≡ pos 0) ⊎ (result ≡ pos 1) →

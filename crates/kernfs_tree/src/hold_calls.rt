@@ -1,4 +1,4 @@
-//! The calls on a hold: another of it, and its active reference.
+//! The calls on a hold, which make another hold of its node, and take and release its active reference.
 ghost use Rattle.std.specs.Prelude.{◌≡◌, ◌≢◌, ◌⊎◌, pos, negsuc, true, false};
 ghost use Rattle.kf_handles.specs.declared.object.Object.TheVariants as behind;
 ghost use Rattle.kf_handles.specs.Calls.{IsNothing, is_nothing};
@@ -7,8 +7,8 @@ ghost use Rattle.kf_handles.specs.Steps.{WasEntered, WasRefused, WasLeft, WasBro
 
 use kf_handles::KtHandle;
 
-/// Another hold of a hold's node, in the tree or gone, behind a handle with nothing behind it. It needs no
-/// tree.
+/// Takes another hold of a hold's node, behind a handle with nothing behind it. The node may have left the
+/// tree. The call does not need the tree.
 #[unsafe(no_mangle)]
 pub extern "C" fn kt_dup(hold: &mut KtHandle, out: &mut KtHandle) -> i32
     ensures another { result ≡ pos 0 → GaveAnother hold.old.place.seat hold.new.place.seat out.new.place.seat
@@ -26,7 +26,7 @@ pub extern "C" fn kt_dup(hold: &mut KtHandle, out: &mut KtHandle) -> i32
     kf_handles::dup(hold, out)
 }
 
-/// Tries for an active reference (`kernfs_get_active`): 0, or -ENODEV if the node is not live.
+/// Tries to take an active reference (`kernfs_get_active`). Returns 0, or -ENODEV if the node is not live.
 #[unsafe(no_mangle)]
 pub extern "C" fn kt_enter(hold: &mut KtHandle) -> i32
     ensures entered { result ≡ pos 0 → WasEntered hold.old.place.seat hold.new.place.seat }
@@ -37,7 +37,7 @@ pub extern "C" fn kt_enter(hold: &mut KtHandle) -> i32
     kf_handles::enter(hold)
 }
 
-/// Gives the reference back (`kernfs_put_active`): 0, or 1 if a removal or a hiding may wait for
+/// Releases the reference (`kernfs_put_active`). Returns 0, or 1 if a removal or a hiding may be waiting for
 /// that.
 #[unsafe(no_mangle)]
 pub extern "C" fn kt_leave(call: &mut KtHandle) -> i32
@@ -52,8 +52,8 @@ pub extern "C" fn kt_leave(call: &mut KtHandle) -> i32
     kf_handles::leave(call)
 }
 
-/// Gives the reference up inside the callback (`kernfs_break_active_protection`): 0, or 1 if a removal
-/// or a hiding may wait for that.
+/// Gives the reference up inside the callback (`kernfs_break_active_protection`). Returns 0, or 1 if a
+/// removal or a hiding may be waiting for that.
 #[unsafe(no_mangle)]
 pub extern "C" fn kt_break(call: &mut KtHandle) -> i32
     ensures broken { (result ≡ pos 0) ⊎ (result ≡ pos 1) →
@@ -67,7 +67,7 @@ pub extern "C" fn kt_break(call: &mut KtHandle) -> i32
     kf_handles::break_off(call)
 }
 
-/// Takes a reference again (`kernfs_unbreak_active_protection`).
+/// Takes a reference again after `kt_break` (`kernfs_unbreak_active_protection`).
 #[unsafe(no_mangle)]
 pub extern "C" fn kt_restore(call: &mut KtHandle) -> i32
     ensures restored { result ≡ pos 0 → WasRestored call.old.place.seat call.new.place.seat }

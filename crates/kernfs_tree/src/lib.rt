@@ -1,5 +1,5 @@
-//! The attribute tree for programs in C: a static library, whose calls `kernfs_tree.h` declares. Each call is
-//! one of `kf_handles`, whose clauses it states again.
+//! The attribute tree for C programs, as a static library. `kernfs_tree.h` declares the calls. Each call,
+//! except `kt_version`, makes one call of `kf_handles`, and states the clauses of that call again.
 #![tactic(auto)]
 
 mod calls;

@@ -1,4 +1,5 @@
-//! The calls that look paths up and hold nodes without the tree's lock, and the tree that they need.
+//! The calls that look paths up and hold nodes without the tree's lock, and the call that makes a tree for
+//! such look-ups.
 ghost use Rattle.std.specs.Prelude.{◌≡◌, ◌≢◌, ◌<◌, ◌≤◌, pos, negsuc, true, false};
 ghost use Rattle.kf_core.specs.Limits.{most_slots};
 ghost use Rattle.kf_handles.specs.declared.object.Object.TheVariants as behind;
@@ -11,7 +12,7 @@ ghost use Rattle.kf_handles.specs.Lookers.{FoundBy, FoundNothing, HoldsPinned, L
 use kf_handles::{KtHandle, KtKey};
 use std::alloc::Global;
 
-/// A new tree of only the root, with words for the look-ups of its first slots, this many.
+/// Makes a tree with only the root, and with words for look-ups in its first `looks` slots.
 #[unsafe(no_mangle)]
 pub extern "C" fn kt_create_root_with_looks(
     alloc: Global,
@@ -32,7 +33,7 @@ pub extern "C" fn kt_create_root_with_looks(
     kf_handles::make_tree(alloc, handle, slots, holds, looks)
 }
 
-/// A looker of the tree, behind a handle with nothing behind it. It keeps a hold of the root.
+/// Makes a looker of the tree, behind a handle with nothing behind it. The looker keeps a hold of the root.
 #[unsafe(no_mangle)]
 pub extern "C" fn kt_looker(alloc: Global, tree: &mut KtHandle, out: &mut KtHandle) -> i32
     ensures made { result ≡ pos 0 → MadeLooker tree.old.place.object out.new.place.object
@@ -48,8 +49,8 @@ pub extern "C" fn kt_looker(alloc: Global, tree: &mut KtHandle, out: &mut KtHand
     kf_handles::looker(alloc, tree, out)
 }
 
-/// The live node that a path names (`kernfs_walk_and_get_ns`), without a lock: 0, or -EAGAIN if it has to be
-/// looked up under the lock.
+/// Finds the live node that a path names (`kernfs_walk_and_get_ns`), without a lock. Returns 0, or -EAGAIN if
+/// the path must be looked up under the lock.
 #[unsafe(no_mangle)]
 pub extern "C" fn kt_look(looker: &mut KtHandle, path: &[u8], out: &mut KtKey) -> i32
     ensures found { result ≡ pos 0 →
@@ -62,7 +63,7 @@ pub extern "C" fn kt_look(looker: &mut KtHandle, path: &[u8], out: &mut KtKey) -
     kf_handles::look(looker, path, out)
 }
 
-/// A hold of a node (`kernfs_get`), without a lock, behind a handle with nothing behind it.
+/// Takes a hold of a node (`kernfs_get`), without a lock, behind a handle with nothing behind it.
 #[unsafe(no_mangle)]
 pub extern "C" fn kt_pin(looker: &mut KtHandle, key: KtKey, out: &mut KtHandle) -> i32
     ensures held { result ≡ pos 0 →

@@ -1,5 +1,6 @@
-//! The calls of a program that remove a node, and that hide a file and show it again. Each returns -EAGAIN
-//! where somebody is inside: it has begun then, and is made again.
+//! The calls that remove a node, and that hide a file and show it again. If somebody is inside, `kt_remove`,
+//! `kt_hide` and `kt_unhide` return -EAGAIN. The removal or the hiding has then begun, and the caller must
+//! call again.
 ghost use Rattle.std.specs.Prelude.{◌≡◌, ◌≢◌, pos, negsuc, false, true};
 ghost use Rattle.kf_handles.specs.declared.questions.Question.TheVariants as question;
 ghost use Rattle.kf_handles.specs.declared.questions.Task.TheVariants as asks;
@@ -10,8 +11,8 @@ ghost use Rattle.kf_handles.specs.Hiding.{SawNobody, SawSomebody};
 
 use kf_handles::{KtHandle, KtKey};
 
-/// Claims the self-removal of a node (`kernfs_remove_self`), after it has marked the node and all below it.
-/// 0 for the first that claims it, and 1 for each later one.
+/// Marks a node and everything below it, and then claims the self-removal of the node (`kernfs_remove_self`).
+/// Returns 0 to the first caller that claims the node, and 1 to each later one.
 #[unsafe(no_mangle)]
 pub extern "C" fn kt_claim(tree: &mut KtHandle, key: KtKey) -> i32
     ensures first { result ≡ pos 0 → ClaimedIn tree.old.place.object tree.new.place.object key false }
@@ -24,9 +25,10 @@ pub extern "C" fn kt_claim(tree: &mut KtHandle, key: KtKey) -> i32
     kf_handles::claim(tree, key)
 }
 
-/// Marks a node and all below it, and takes each of them out of the tree that nobody uses (`kernfs_remove`).
-/// 1 if this call took the node out, 0 if it was out before, -EAGAIN if it is still there, since somebody is
-/// inside; -ENOENT of a key that was never given in the tree.
+/// Marks a node and everything below it, and takes out of the tree each of them that nobody uses and that no
+/// longer has a node below it (`kernfs_remove`). Returns 1 if this call took the node out, 0 if the node was
+/// out before, and -EAGAIN if it is still there: somebody is inside, or a node that was marked before has no
+/// room for another hold. Fails with -ENOENT if no node of the tree ever had the key.
 #[unsafe(no_mangle)]
 pub extern "C" fn kt_remove(tree: &mut KtHandle, key: KtKey) -> i32
     ensures out { result ≡ pos 1 →
@@ -43,7 +45,8 @@ pub extern "C" fn kt_remove(tree: &mut KtHandle, key: KtKey) -> i32
     kf_handles::remove(tree, key)
 }
 
-/// Hides a file (`kernfs_show` with `show` false). 0 if nobody is inside, -EAGAIN if somebody is.
+/// Hides a file (`kernfs_show` with `show` false). Returns 0 if it saw that nobody is inside, and -EAGAIN if
+/// it saw somebody. The file is hidden in both cases.
 #[unsafe(no_mangle)]
 pub extern "C" fn kt_hide(tree: &mut KtHandle, key: KtKey) -> i32
     ensures hidden { result ≡ pos 0 →
@@ -59,8 +62,8 @@ pub extern "C" fn kt_hide(tree: &mut KtHandle, key: KtKey) -> i32
     kf_handles::hide(tree, key)
 }
 
-/// Shows a hidden file again (`kernfs_show` with `show` true). 0 if it is shown, -EAGAIN if somebody is
-/// inside still, and then it stays hidden.
+/// Shows a hidden file again (`kernfs_show` with `show` true). Returns 0 if the file is shown. Returns
+/// -EAGAIN if it saw somebody still inside, and then the file stays hidden.
 #[unsafe(no_mangle)]
 pub extern "C" fn kt_unhide(tree: &mut KtHandle, key: KtKey) -> i32
     ensures shown { result ≡ pos 0 → IsUnhiddenIn tree.old.place.object tree.new.place.object key }

@@ -1,4 +1,4 @@
--- A read of a file leaves its post in the same slot.
+-- A read of a file does not change the slot of its post.
 use Rattle.std.proofs.Common.{◌≡◌, ℕ, Bool, true, false, List, Option, None, Some, Result, refl, ap, inl}
 use Rattle.kf_core.specs.Calls.{tried}
 use Rattle.kf_words.specs.Callers.{Handle}

@@ -1,4 +1,4 @@
-//! What a turn takes each of several threads that run at once, at best.
+//! Measures how long a turn takes, at best, for each of several threads that run at the same time.
 
 use crate::grown::{ASIDE, Bench};
 use crate::turns::{Turn, make};
@@ -9,20 +9,20 @@ use std::sync::atomic::{AtomicU64, Ordering};
 use std::thread::{Threads, for_each_mut};
 use std::time::{Clock, Instant};
 
-/// A figure is the best of this many rounds. A round counts if its threads worked at once, and its figure is
-/// the mean of their times.
+/// A figure is the best of this many rounds. A round counts if its threads worked at the same time. The
+/// figure of a round is the mean of their times.
 const ROUNDS: u32 = 25;
 
-/// How many rounds are made at most: on a busy machine few of them count.
+/// At most this many rounds are made. (On a busy machine few of them count.)
 const MOST_ROUNDS: u32 = 100;
 
-/// The most threads of a round: four, and one that changes the tree beside them.
+/// The greatest number of threads in a round: four, and one that changes the tree meanwhile.
 const THREADS: usize = 5;
 
-/// How often a thread looks whether the others have come too, before it begins without them.
+/// How often a thread checks whether the others have come, before it begins without them.
 const LOOKS: u32 = 10_000_000;
 
-/// From when to when a thread worked, in nanoseconds of one clock.
+/// When a thread began and ended its work, in nanoseconds of one clock.
 #[derive(Clone, Copy)]
 pub(crate) struct Span {
     start: u128,
@@ -44,7 +44,7 @@ impl Seat {
     }
 }
 
-/// The time now. (A machine whose clock cannot be read has none.)
+/// The time now. It fails if the clock cannot be read.
 pub(crate) fn now<R: Clock>(rt: &R) -> Result<Instant, Refusal> {
     Instant::now(rt).or(Err(Refusal::NoDevice))
 }
@@ -54,7 +54,7 @@ pub(crate) fn since<R: Clock>(rt: &R, moment: Instant) -> Result<u128, Refusal> 
     Ok(now(rt)?.saturating_duration_since(moment).as_nanos())
 }
 
-/// Comes, and waits until this many threads have.
+/// Counts this thread as one that has come, and waits until this many threads have.
 fn meet(come: &AtomicU64, threads: u64) {
     come.fetch_add(1, Ordering::SeqCst);
     for _ in 0..LOOKS {
@@ -64,7 +64,7 @@ fn meet(come: &AtomicU64, threads: u64) {
     }
 }
 
-/// Makes this many turns, and returns from when to when.
+/// Makes this many turns, and returns when they began and ended.
 fn time<N: Naming, R: Wait + Clock>(
     rt: &R,
     bench: &Bench<N>,
@@ -77,7 +77,7 @@ fn time<N: Naming, R: Wait + Clock>(
     Ok(Span { start, end })
 }
 
-/// Has a thread work once this many have come.
+/// Lets a thread work once this many threads have come.
 fn work<N: Naming, R: Wait + Clock>(
     rt: &R,
     bench: &Bench<N>,
@@ -90,7 +90,8 @@ fn work<N: Naming, R: Wait + Clock>(
     bench.busy.fetch_sub(1, Ordering::SeqCst);
 }
 
-/// Makes one round: a thread for each seat, which all begin at once.
+/// Makes one round, with a thread for each seat. The threads begin at the same time, unless one comes too
+/// late (see `meet`).
 pub(crate) fn make_round<N: Naming + Send + Sync, R: Threads + Wait + Clock + Sync>(
     rt: &R,
     bench: &Bench<N>,
@@ -108,8 +109,8 @@ pub(crate) fn make_round<N: Naming + Send + Sync, R: Threads + Wait + Clock + Sy
     );
 }
 
-/// The mean of the times of the first threads, as many as are counted. None unless all threads of the round
-/// worked at once for three quarters of the longest of these times.
+/// The mean of the times of the first `counted` threads. It is `None` unless all threads of the round worked
+/// at the same time for at least three quarters of the longest of these times.
 fn mean(seats: &[Seat], counted: usize) -> Result<Option<u128>, Refusal> {
     let (mut all, mut longest, mut last_start, mut first_end) = (0u128, 0u128, 0u128, u128::MAX);
     let mut left = counted;
@@ -131,7 +132,7 @@ fn mean(seats: &[Seat], counted: usize) -> Result<Option<u128>, Refusal> {
     Ok(Some(all / counted.max(1) as u128))
 }
 
-/// The best of the rounds that count. None if none did.
+/// The best time of the rounds that count, or `None` if no round counted.
 fn best<N: Naming + Send + Sync, R: Threads + Wait + Clock + Sync>(
     rt: &R,
     bench: &Bench<N>,
@@ -153,7 +154,8 @@ fn best<N: Naming + Send + Sync, R: Threads + Wait + Clock + Sync>(
     Ok(best)
 }
 
-/// What a turn takes each of the threads at these slots, in tenths of a nanosecond. None if no round counted.
+/// How long a turn takes for each of the threads at these slots, in tenths of a nanosecond. It is `None` if
+/// no round counted.
 pub(crate) fn tenths<N: Naming + Send + Sync, R: Threads + Wait + Clock + Sync>(
     rt: &R,
     bench: &Bench<N>,

@@ -1,5 +1,5 @@
-//! Reads of a file that is open, and visits: an open by the path, a read and a close. A close gives hold,
-//! event counter and page back, and the next open takes them.
+//! Reads of an open file, and visits. A visit is an open by the path, a read and a close. A close releases
+//! the hold, and returns the event counter and the page, which the next open uses again.
 
 ghost use Rattle.std.specs.Prelude.{◌≡◌, IfOk};
 
@@ -12,10 +12,10 @@ use kf_words::{Call, Hold};
 use std::alloc::Global;
 use std::sync::Wait;
 
-/// More slots than there are files and directories before them.
+/// More slots than the files and the directories before them need.
 const FEW: u32 = 100;
 
-/// Each show gives a text of four bytes.
+/// Callbacks whose show gives a text of four bytes.
 #[derive(Clone, Copy)]
 struct FourBytes;
 
@@ -48,14 +48,14 @@ impl<N: Naming> WaitOps<N> for FourBytes {
     }
 }
 
-/// What a thread keeps of a file that is closed.
+/// What a thread keeps of a closed file.
 #[derive(Drop)]
 pub(crate) struct Kept {
     post: Post,
     page: Box<PageApart>,
 }
 
-/// An event counter of a slot, and a page.
+/// A new event counter of a slot, and a new page.
 pub(crate) fn keep(alloc: Global, slot: u32) -> Result<Kept, Refusal>
     ensures slot { IfOk result (λ kept. kept.post.slot ≡ slot) }
 {
@@ -67,7 +67,7 @@ pub(crate) fn keep(alloc: Global, slot: u32) -> Result<Kept, Refusal>
     Ok(Kept { post, page })
 }
 
-/// Opens the file of a hold, which is of this slot. After a refusal there is one hold fewer.
+/// Opens the file of a hold, which must be of this slot. After a refusal the hold is released.
 fn open<N: Naming>(hold: Hold, slot: u32, kept: Kept) -> Result<BoxedFile<N>, Refusal>
     requires table { hold.table ≡ N.table }
     requires slot { kept.post.slot ≡ slot }
@@ -87,7 +87,7 @@ fn open<N: Naming>(hold: Hold, slot: u32, kept: Kept) -> Result<BoxedFile<N>, Re
     }
 }
 
-/// Reads a file from its start, whose text it must have.
+/// Reads a file from its start, and fails if it does not read the expected text.
 #[tactic(auto, using(crate::proofs::SameSlot::read_slot))]
 fn read_once<N: Naming, R: Wait>(
     rt: &R,
@@ -121,7 +121,7 @@ pub(crate) fn read<N: Naming, R: Wait>(
     Ok(())
 }
 
-/// A hold of what a path names, under the lock.
+/// Takes a hold of the node that a path names, under the lock.
 fn hold_locked<N: Naming, R: Wait>(
     rt: &R,
     tree: &SharedTree<N>,
@@ -134,8 +134,9 @@ fn hold_locked<N: Naming, R: Wait>(
     editor.hold(key)
 }
 
-/// Finds the file in a slot by its path, without the lock if that is asked for and succeeds, and else under
-/// it. Opens it, reads and closes it. Returns what is kept of it, and whether it took the lock.
+/// Visits the file in a slot once. Unless `locked` is set, it looks the file up by its path without the lock.
+/// If `locked` is set, or if that look-up fails, it looks the file up under the lock. Then it opens, reads
+/// and closes the file. It returns what is kept of the file, and whether it took the lock.
 pub(crate) fn visit_once<N: Naming, R: Wait>(
     rt: &R,
     tree: &SharedTree<N>,
@@ -179,7 +180,7 @@ fn visit_by<N: Naming, R: Wait>(
     Ok(())
 }
 
-/// Visits the file in a slot this many times, and keeps the owners of its holds between.
+/// Visits the file in a slot this many times, with one holder for all visits.
 pub(crate) fn visit<N: Naming, R: Wait>(
     rt: &R,
     alloc: Global,

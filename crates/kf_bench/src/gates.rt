@@ -20,7 +20,8 @@ use std::time::{Clock, Duration};
 /// One lane for each thread of a round.
 const LANES: u64 = 4;
 
-/// A gate while it is closed, a pass of each lane while no thread has it, and the number of the last opening.
+/// The gate while it is closed, the pass of each lane while no thread has it, and the number of the last
+/// opening.
 #[derive(Drop)]
 pub(crate) struct Gate {
     closed: Mutex<Option<Closed>>,
@@ -65,7 +66,7 @@ impl Gate {
         }
     }
 
-    /// A pass that no thread has.
+    /// Takes a pass that no thread has.
     fn take_pass<R: Wait>(&self, rt: &R) -> Result<Pass, Refusal> {
         self.passes.lock(rt).pop().ok_or(Refusal::NoSpace)
     }
@@ -96,7 +97,7 @@ pub(crate) fn pass_through<N: Naming, R: Wait>(
     bench.gate.put_pass(rt, pass)
 }
 
-/// Goes in and out until that is refused.
+/// Goes in and out through the gate until an attempt to enter is refused.
 fn use_up(mut pass: Pass, number: u64) -> Pass {
     for _ in 0..u32::MAX {
         match pass.enter(number) {
@@ -107,7 +108,7 @@ fn use_up(mut pass: Pass, number: u64) -> Pass {
     pass
 }
 
-/// Goes through the gate each time it is open, until the thread that changes the tree has ended.
+/// Goes through the gate whenever it is open, until the thread that changes the tree has ended.
 pub(crate) fn use_hot<N: Naming, R: Wait + Clock>(
     rt: &R,
     bench: &Bench<N>,
@@ -124,7 +125,7 @@ pub(crate) fn use_hot<N: Naming, R: Wait + Clock>(
     bench.gate.put_pass(rt, pass)
 }
 
-/// Removes a hot node with its gate.
+/// Removes a hot node together with its gate.
 fn remove_with_gate<N: Naming, R: Wait>(
     rt: &R,
     bench: &Bench<N>,
@@ -163,7 +164,7 @@ fn remove_with_gate<N: Naming, R: Wait>(
     }
 }
 
-/// Creates a file and makes it hot, and a little later removes it: the removal is measured.
+/// Creates a file, makes it hot, and removes it a little later. Only the removal is measured.
 pub(crate) fn remove_hot<N: Naming, R: Wait + Clock>(
     rt: &R,
     bench: &Bench<N>,

@@ -14,7 +14,7 @@ const FILES: [&[u8]; 7] = [
     b"attr0", b"attr1", b"attr2", b"attr3", b"attr4", b"attr5", b"attr6",
 ];
 
-/// Makes ten nodes in a directory, of which three are directories, and adds these to the list.
+/// Makes ten nodes in a directory. Three of them are directories, and it adds these to the list.
 fn fill_one<N: Naming>(
     editor: &mut Editor<'_, N>,
     dirs: &mut Vec<Key>,
@@ -33,7 +33,7 @@ fn fill_one<N: Naming>(
     Ok(())
 }
 
-/// Makes this many nodes, ten at a time, below a directory.
+/// Makes this many tens of nodes below a directory, ten in each directory that it fills.
 fn fill<N: Naming>(
     editor: &mut Editor<'_, N>,
     alloc: Global,
@@ -52,8 +52,8 @@ fn fill<N: Naming>(
     Ok(())
 }
 
-/// Makes a live subtree of this many nodes, ten at a time, under one lock; removes it 20 ms later, and
-/// returns when that began.
+/// Makes a live directory with this many tens of nodes below it, under one lock, and removes it 20 ms later.
+/// It returns when the removal began.
 pub(crate) fn grow_and_remove<N: Naming, R: Wait + Clock>(
     rt: &R,
     alloc: Global,

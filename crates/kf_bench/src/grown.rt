@@ -1,5 +1,5 @@
-//! What is measured: a tree of directories below one another, with four files in the last of them, and lines
-//! of words and locks to compare.
+//! What is measured: a tree of nested directories, with four files in the last of them. Lines of words and of
+//! locks are there to compare it with.
 
 ghost use Rattle.std.specs.Prelude.{◌≡◌, IfOk};
 
@@ -13,34 +13,34 @@ use std::sync::atomic::AtomicU64;
 use std::sync::{Arc, RwLock, Wait};
 use std::time::{Clock, Instant};
 
-/// More slots than nodes: the words of a small tree would lie among other memory, on lines that they share
+/// Many more slots than nodes: the words of a small tree would lie among other memory, and share cache lines
 /// with it.
 pub(crate) const SLOTS: u32 = 8192;
 
 /// The slot of a directory that is on no measured path.
 pub(crate) const ASIDE: u32 = 2;
 
-/// The slot of a directory with nothing in it.
+/// The slot of an empty directory.
 pub(crate) const LEAF: u32 = 63;
 
-/// This many words, or locks, are a line, as a slot's words have one.
+/// A line is this many words and locks. Each slot has a line, as it has a cache line for its own words.
 pub(crate) const LINE: u32 = 8;
 
-/// The directories below one another, by name. All stand in the slots from 1 up.
+/// The names of the nested directories. All directories are in the slots from 1 up.
 const NAMES: [&[u8]; 8] = [
     b"devices", b"virtual", b"network", b"adapter", b"queues0", b"streams", b"monitor", b"current",
 ];
 
-/// What a node's word is compared with: a word and a lock.
+/// What the word of a node is compared with: a word and a lock.
 #[derive(Drop)]
 pub(crate) struct Plain {
     pub(crate) word: AtomicU64,
     pub(crate) lock: RwLock<u64>,
 }
 
-/// The tree, a line of words and of locks for each slot, a gate, an object that threads share by counting,
-/// how many threads have come to a round and have not ended it, whether the thread that changes the tree has
-/// ended, and the moment from which times are counted.
+/// What a measurement uses: the tree, a line of words and of locks for each slot, a gate, and an object that
+/// threads share by a reference count. It also has how many threads have come to a round, how many have not
+/// ended it, whether the thread that changes the tree has ended, and the moment from which times are counted.
 #[derive(Drop)]
 pub(crate) struct Bench<N: Naming> {
     pub(crate) alloc: Global,
@@ -54,7 +54,7 @@ pub(crate) struct Bench<N: Naming> {
     pub(crate) origin: Instant,
 }
 
-/// Makes a directory of each name in a directory.
+/// Makes a directory of each name in this directory.
 fn fill<N: Naming>(editor: &mut Editor<'_, N>, dir: Key) -> Result<(), Refusal> {
     for name in NAMES {
         editor.create(dir, name, Node::Dir, true)?;
@@ -62,8 +62,8 @@ fn fill<N: Naming>(editor: &mut Editor<'_, N>, dir: Key) -> Result<(), Refusal> 
     Ok(())
 }
 
-/// Makes in each directory one of each name: in the root, then in the first of these, in the second of those
-/// and so on. The files come into the last one.
+/// Makes a directory of each name in the root, then in the first of these, then in the second of those, and
+/// so on. The files go into the last directory of the last level.
 fn grow<N: Naming, R: Wait>(rt: &R, tree: &SharedTree<N>) -> Result<(), Refusal> {
     let mut editor = tree.edit(rt);
     let mut dir = editor.state().root();
@@ -82,7 +82,7 @@ fn grow<N: Naming, R: Wait>(rt: &R, tree: &SharedTree<N>) -> Result<(), Refusal>
 }
 
 impl<N: Naming> Bench<N> {
-    /// What is measured, in a new tree.
+    /// Sets up what is measured, in a new tree.
     pub(crate) fn new<R: Wait + Clock>(
         rt: &R,
         alloc: Global,
@@ -110,7 +110,7 @@ impl<N: Naming> Bench<N> {
     }
 }
 
-/// The first node of a slot.
+/// The key of the first node of a slot.
 pub(crate) fn key_in(slot: u32) -> Key
     ensures slot { result.slot ≡ slot }
 {
@@ -120,7 +120,8 @@ pub(crate) fn key_in(slot: u32) -> Key
     }
 }
 
-/// The path of the file in a slot; of another slot that of the first.
+/// The path of the file in a slot. For a slot that has none of these files, it is the path of the first of
+/// them.
 pub(crate) fn path_of(slot: u32) -> &'static [u8] {
     match slot {
         66 => b"/devices/virtual/network/adapter/queues0/streams/monitor/current/b",
@@ -143,7 +144,7 @@ pub(crate) fn hold_of<N: Naming, R: Wait>(
     editor.hold(key_in(slot))
 }
 
-/// A maker of a tree's holds, by a hold of its root.
+/// A maker of a tree's holds, made from a hold of the root.
 pub(crate) fn maker<N: Naming, R: Wait>(
     rt: &R,
     alloc: Global,

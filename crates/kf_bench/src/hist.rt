@@ -1,4 +1,5 @@
-//! A histogram of times: 16 places for each doubling, so a figure is right to a sixteenth.
+//! A histogram of times. It has 16 places (buckets) for each doubling, so a figure is accurate to one
+//! sixteenth.
 
 use std::alloc::{AllocError, Global};
 use std::io;
@@ -6,7 +7,7 @@ use std::io;
 /// How many places there are: one for each time below 32, and 16 for each doubling above.
 const PLACES: usize = 1024;
 
-/// How often each time was met, in nanoseconds, and the longest of them.
+/// How often each time occurred, how many times there are in all, and the longest of them, in nanoseconds.
 #[derive(Drop)]
 pub(crate) struct Histogram {
     counts: Vec<u64>,
@@ -27,7 +28,7 @@ fn place_of(time: u64) -> usize {
     place.saturating_add(rest as usize)
 }
 
-/// The least time of a place.
+/// The shortest time that has this place.
 fn time_of(place: usize) -> u64 {
     let (mut rest, mut times) = (place as u64, 1u64);
     for _ in 0..64u32 {
@@ -41,7 +42,7 @@ fn time_of(place: usize) -> u64 {
 }
 
 impl Histogram {
-    /// No time yet.
+    /// An empty histogram.
     pub(crate) fn new(alloc: Global) -> Result<Histogram, AllocError> {
         let counts = vec![in alloc; 0u64; PLACES]?;
         Ok(Histogram {
@@ -51,7 +52,7 @@ impl Histogram {
         })
     }
 
-    /// One time more.
+    /// Adds a time.
     pub(crate) fn add(&mut self, time: u64) {
         if let Some(count) = self.counts.get_mut(place_of(time)) {
             *count = count.saturating_add(1);
@@ -60,7 +61,7 @@ impl Histogram {
         self.worst = self.worst.max(time);
     }
 
-    /// All times of another histogram.
+    /// Adds all times of another histogram.
     pub(crate) fn add_all(&mut self, other: &Histogram) {
         let mut place = 0usize;
         for more in other.counts.as_slice() {
@@ -73,7 +74,7 @@ impl Histogram {
         self.worst = self.worst.max(other.worst);
     }
 
-    /// The time below which this many of 1,000 are.
+    /// The time below which `of` in 1,000 of the times are.
     fn quantile(&self, of: u64) -> u64 {
         let before = self.all.saturating_mul(of) / 1000;
         let (mut seen, mut place) = (0u64, 0usize);
@@ -87,8 +88,7 @@ impl Histogram {
         self.worst
     }
 
-    /// Prints how many times there are, which half of them, 99 of 100 and 999 of 1,000 are below, and the
-    /// longest.
+    /// Prints how many times there are, the median, the 99th and the 99.9th percentile, and the longest.
     pub(crate) fn print<R: Print>(&self, rt: &R) -> io::Result<()> {
         print!(rt; "{:>10}", self.all)?;
         print!(rt; "{:>10}{:>10}", self.quantile(500), self.quantile(990))?;

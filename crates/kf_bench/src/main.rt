@@ -1,15 +1,16 @@
-//! What the parts of the library cost on this machine, in nanoseconds at best:
+//! Measures what the parts of the library cost on this machine, at best, in nanoseconds:
 //!
-//! - `kf_bench words`: calls of nodes; `kf_bench tree`: look-ups of a path and holds of files; `kf_bench
-//!   files`: reads of files, and opens by their paths;
-//! - `kf_bench hot`: what all threads do at one node and at one file, beside what could be used instead; with
-//!   `--json` an object on each line;
-//! - `kf_bench tails`: the slowest calls, undisturbed and beside a thread that changes the tree;
+//! - `kf_bench words`: calls of nodes.
+//! - `kf_bench tree`: look-ups of a path, and holds of files.
+//! - `kf_bench files`: reads of files, and opens by their paths.
+//! - `kf_bench hot`: what threads do if they all use one node or one file, compared with what could be used
+//!   instead. With `--json` it prints an object on each line.
+//! - `kf_bench tails`: the slowest calls, undisturbed and while a thread changes the tree.
 //! - `kf_bench wait`: four threads wait for a second for a node that is hidden, unused and not marked.
 //!   Whoever runs this counts how often they sleep.
 //!
-//! With none of these words it does nothing. If what is measured cannot be set up, or a turn of it fails, it
-//! says so and exits with 1.
+//! Without one of these words it does nothing. If a measurement cannot be set up, or if one of its turns
+//! fails, it says so and exits with 1.
 #![tactic(auto)]
 
 ghost use Rattle.std.specs.Prelude.{◌≡◌, ◌≤◌};
@@ -64,7 +65,7 @@ impl Part {
     }
 }
 
-/// What the program's first argument asks for.
+/// What the program's arguments ask for.
 fn asked<R: Env + Alloc>(rt: &R) -> io::Result<Option<Part>> {
     let mut words = env::args(rt)?;
     let _program = words.next();

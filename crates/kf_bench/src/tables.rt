@@ -9,11 +9,11 @@ use std::sync::Wait;
 use std::thread::Threads;
 use std::time::Clock;
 
-/// What a line is called, and the slot of each of its threads.
+/// A line of a table: its name, and the slot of each of its threads.
 type Crowd = (&'static str, &'static [u32]);
 
-/// A table: its head, what each column has a thread do, how often in one round, whether another thread
-/// changes the tree beside, and the lines.
+/// A table: its head, what a thread does in each column, how often it does this in one round, whether another
+/// thread changes the tree meanwhile, and the lines.
 #[derive(Clone, Copy)]
 pub(crate) struct Table {
     head: &'static str,
@@ -115,7 +115,7 @@ pub(crate) const FILES: [Table; 3] = [
     },
 ];
 
-/// What all threads do at one node, and at one file.
+/// What threads do if they all use one node, or one file.
 pub(crate) const HOT: [Table; 2] = [
     Table {
         head: "ns a turn at one node                words        gate   additions      RwLock         Arc",
@@ -133,7 +133,7 @@ pub(crate) const HOT: [Table; 2] = [
     },
 ];
 
-/// Prints the nanoseconds of a turn, and none if they were not found.
+/// Prints the nanoseconds of a turn, or a dash if they are not known.
 fn print_turn<R: Print>(rt: &R, tenths: Option<u128>) -> io::Result<()> {
     match tenths {
         None => rt.print("           -"),
@@ -141,7 +141,7 @@ fn print_turn<R: Print>(rt: &R, tenths: Option<u128>) -> io::Result<()> {
     }
 }
 
-/// Prints an object on a line: what was done, by how many threads, and the nanoseconds of a turn.
+/// Prints a JSON object on a line: what was done, by how many threads, and the nanoseconds of a turn.
 fn print_object<R: Print>(
     rt: &R,
     what: &str,
@@ -161,7 +161,7 @@ fn print_object<R: Print>(
 }
 
 impl Table {
-    /// Measures one column by the threads at these slots.
+    /// Measures one column with threads at these slots.
     fn measure<N: Naming + Send + Sync, R: Threads + Wait + Clock + Sync>(
         &self,
         rt: &R,
@@ -172,7 +172,7 @@ impl Table {
         Ok(tenths(rt, bench, turn, slots, self.turns, self.beside_changes)?)
     }
 
-    /// Measures each column by each crowd, and prints an object for each.
+    /// Measures each column with each crowd, and prints an object for each figure.
     fn print_objects<N: Naming + Send + Sync, R: Threads + Wait + Clock + Print + Sync>(
         &self,
         rt: &R,
@@ -187,7 +187,7 @@ impl Table {
         Ok(())
     }
 
-    /// Measures each column by each crowd, and prints the table.
+    /// Measures each column with each crowd, and prints the table.
     fn print<N: Naming + Send + Sync, R: Threads + Wait + Clock + Print + Sync>(
         &self,
         rt: &R,

@@ -1,5 +1,5 @@
-//! How long single calls take, undisturbed and beside a thread that changes the tree: the median, and the
-//! slowest of 100, of 1,000 and of all.
+//! Measures how long single calls take, undisturbed and while a thread changes the tree: the median, the 99th
+//! and the 99.9th percentile, and the slowest.
 
 use crate::grown::Bench;
 use crate::hist::Histogram;
@@ -12,11 +12,11 @@ use std::sync::atomic::Ordering;
 use std::thread::{Threads, for_each_mut};
 use std::time::Clock;
 
-/// More slots than the 100,000 nodes that come and go, and those that stay.
+/// More slots than the 100,000 nodes that come and go need, together with those that stay.
 pub(crate) const TAIL_SLOTS: u32 = 120_000;
 
-/// Threads that work at once, and how often: of several rounds the best one is reported, by the slowest call
-/// of the first thread.
+/// Threads that work at the same time, in one or more rounds. The best round is reported: the one in which
+/// the slowest call of the first thread was fastest.
 struct Scene {
     what: &'static str,
     rounds: u32,
@@ -140,7 +140,7 @@ fn worst_of(workers: &[Worker]) -> u64 {
     }
 }
 
-/// Prints a line for all threads of a scene that did the same.
+/// Prints one line for all threads of a scene that had this task.
 fn print_task<R: Print>(
     rt: &R,
     alloc: Global,
@@ -163,8 +163,8 @@ fn print_task<R: Print>(
     Ok(())
 }
 
-/// Measures all scenes, and prints a line for what each kind of thread did. (A time has the reading of the
-/// clock in it.)
+/// Measures all scenes, and prints a line for each measured task of a scene. (A time includes the reading of
+/// the clock.)
 pub(crate) fn print_tails<N: Naming + Send + Sync, R: Threads + Wait + Clock + Print + Sync>(
     rt: &R,
     bench: &Bench<N>,

@@ -18,7 +18,7 @@ use std::time::{Clock, Duration, Instant};
 /// The slot of the file that is looked up and opened.
 const FILE: u32 = 65;
 
-/// The slot of the directory in which a file comes and goes, and that file's path.
+/// The slot of the directory in which a file comes and goes. The path of that file is `BUSY_PATH`.
 const BUSY_DIR: u32 = 4;
 
 const BUSY_PATH: &[u8] = b"/adapter/busy";
@@ -33,21 +33,21 @@ const BUSY_FILE: Node = Node::File {
 pub(crate) enum Task {
     /// Looks up a path without the lock, and under it if that fails.
     Look,
-    /// Opens a file by its path, reads and closes it.
+    /// Opens a file by its path, reads it and closes it.
     Open,
     /// Enters and leaves the file that comes and goes, for as long as it is there.
     Use,
     /// Renames a directory that is on no measured path.
     Rename,
-    /// Creates a file and removes it, which nobody uses.
+    /// Creates a file that nobody uses, and removes it.
     Edit,
-    /// Creates a file, and a little later removes it: the removal is measured.
+    /// Creates a file, and removes it a little later. Only the removal is measured.
     Remove,
     /// Goes through the gate of the hot file that comes and goes, for as long as it is open.
     UseHot,
-    /// The same as `Remove`, of a hot file with its gate.
+    /// Like `Remove`, but removes a hot file together with its gate.
     RemoveHot,
-    /// Makes 100,000 nodes under one lock, and removes them: the removal is measured.
+    /// Makes 100,000 nodes under one lock, and removes them. Only the removal is measured.
     Grow,
 }
 
@@ -66,7 +66,7 @@ impl Task {
         }
     }
 
-    /// How often it is done, unless a thread that changes the tree ends before.
+    /// How often the task is done, unless the thread that changes the tree ends first.
     pub(crate) fn turns(self) -> u32 {
         match self {
             Task::Look | Task::Open | Task::Use | Task::UseHot => 2_000_000,
@@ -83,13 +83,13 @@ impl Task {
         }
     }
 
-    /// Whether it is only there so that another thread meets it, and is not measured.
+    /// Whether the task is not measured, but is only there for another thread to meet.
     pub(crate) fn is_aside(self) -> bool {
         matches!(self, Task::Use | Task::UseHot)
     }
 }
 
-/// A thread, how long each of its calls took, how many of these took the lock, and how it ended.
+/// A thread: its task, how long each of its calls took, how many of these took the lock, and how it ended.
 #[derive(Drop)]
 pub(crate) struct Worker {
     pub(crate) task: Task,
@@ -108,7 +108,7 @@ impl Worker {
         })
     }
 
-    /// Counts a call that began then and ends now.
+    /// Counts a call that began at this moment and ends now.
     pub(crate) fn count<R: Clock>(&mut self, rt: &R, begun: Instant) -> Result<(), Refusal> {
         let took = since(rt, begun)?;
         self.times.add(took.min(1_000_000_000_000) as u64);
@@ -173,7 +173,7 @@ fn open<N: Naming, R: Wait + Clock>(
     result
 }
 
-/// Enters and leaves until that is refused.
+/// Enters and leaves until a try is refused, and then releases the hold.
 fn use_up(mut hold: Hold) {
     for _ in 0..u32::MAX {
         match hold.enter() {
@@ -271,7 +271,7 @@ fn grow<N: Naming, R: Wait + Clock>(
     bench.tree.edit(rt).compact()
 }
 
-/// Does what is asked of a worker.
+/// Does the task of a worker.
 pub(crate) fn work<N: Naming, R: Wait + Clock>(rt: &R, bench: &Bench<N>, worker: &mut Worker) {
     worker.result = match worker.task {
         Task::Look => look(rt, bench, worker),

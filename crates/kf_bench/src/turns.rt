@@ -1,4 +1,5 @@
-//! What a thread does again and again in a round: each of these is a column of a table, or runs beside one.
+//! What a thread does again and again in a round. Each of these turns is a column of a table, or runs beside
+//! one.
 
 use crate::files::{read, visit};
 use crate::gates::pass_through;
@@ -15,11 +16,11 @@ use std::time::{Clock, Duration};
 /// What a thread does.
 #[derive(Clone, Copy)]
 pub(crate) enum Turn {
-    /// Enters and leaves by a hold of its slot's node.
+    /// Enters its slot's node with a hold, and leaves it.
     Enter,
     /// Goes in and out through the gate of a hot node.
     Gate,
-    /// Counts one user more and one less in the first word of its slot's line.
+    /// Adds one to the first word of its slot's line, and subtracts it again.
     Add,
     /// Locks the first lock of its slot's line for reading and unlocks it.
     Lock,
@@ -27,23 +28,23 @@ pub(crate) enum Turn {
     Clone,
     /// Looks up the path of its slot's file without the lock, or under it if a change came between.
     Look,
-    /// Looks it up under the lock.
+    /// Looks up the same path under the lock.
     LookLocked,
-    /// Takes a hold of its slot's node without the lock, and gives it back.
+    /// Takes a hold of its slot's node without the lock, and releases it.
     Pin,
-    /// Takes it under the lock.
+    /// Takes the same hold under the lock, and releases it.
     HoldLocked,
     /// Reads its slot's file, which it keeps open.
     Read,
-    /// Opens its slot's file by the path, which it finds without the lock, reads and closes it.
+    /// Opens its slot's file by its path, which it looks up without the lock, and reads and closes the file.
     Visit,
-    /// Does so with a path that it finds under the lock.
+    /// Does the same with a path that it looks up under the lock.
     VisitLocked,
     /// Changes the tree until all others have ended.
     Change,
     /// Waits for the drain of its slot's node.
     WaitDrained,
-    /// Removes its slot's node a second later.
+    /// Removes its slot's node after one second.
     Remove,
 }
 
@@ -70,7 +71,7 @@ impl Turn {
     }
 }
 
-/// How often the tree is changed at most: each time after this many microseconds.
+/// The pause after each change of the tree, in microseconds.
 const PAUSE: u64 = 50;
 
 fn enter<N: Naming, R: Wait>(
@@ -125,7 +126,7 @@ fn clone<N: Naming>(bench: &Bench<N>, turns: u32) -> Result<(), Refusal> {
     Ok(())
 }
 
-/// Looks up without the lock, or always under it.
+/// Looks a path up without the lock, or under it if `locked` is set or that look-up fails.
 fn look<N: Naming, R: Wait>(
     rt: &R,
     tree: &SharedTree<N>,
@@ -143,7 +144,7 @@ fn look<N: Naming, R: Wait>(
     Ok(())
 }
 
-/// Takes holds without the lock or, if so asked, under it.
+/// Takes holds without the lock, or under it if `locked` is set, and releases them.
 fn hold<N: Naming, R: Wait>(
     rt: &R,
     alloc: Global,
@@ -169,7 +170,7 @@ fn hold<N: Naming, R: Wait>(
     told
 }
 
-/// Moves a directory that is on no measured path to another name and back, until only this thread is busy.
+/// Renames a directory that is on no measured path, and renames it back, until only this thread is busy.
 fn change<N: Naming, R: Wait + Clock>(
     rt: &R,
     tree: &SharedTree<N>,
@@ -191,7 +192,7 @@ fn change<N: Naming, R: Wait + Clock>(
     Ok(())
 }
 
-/// Does what is asked, this many times.
+/// Makes a turn this many times.
 pub(crate) fn make<N: Naming, R: Wait + Clock>(
     rt: &R,
     bench: &Bench<N>,

@@ -1,4 +1,4 @@
-//! Four threads that wait for a node that nobody uses, and that is not marked yet.
+//! Four threads that wait for the drain of a node that nobody uses and that is not marked yet.
 
 use crate::clock::{Seat, make_round};
 use crate::grown::{Bench, LEAF, hold_of, key_in};
@@ -32,7 +32,7 @@ fn hide<N: Naming, R: Wait>(rt: &R, tree: &SharedTree<N>, slot: u32) -> Result<H
     }
 }
 
-/// Removes the node in a slot a second later.
+/// Removes the node in a slot after one second.
 pub(crate) fn remove<N: Naming, R: Wait + Clock>(
     rt: &R,
     tree: &SharedTree<N>,
@@ -43,8 +43,8 @@ pub(crate) fn remove<N: Naming, R: Wait + Clock>(
     Ok(())
 }
 
-/// Four threads wait for the drain of a hidden node that nobody uses, until it is marked a second later. (If
-/// the mark is refused they wait for ever.)
+/// Four threads wait for the drain of a hidden node that nobody uses, until it is marked one second later.
+/// (If the mark is refused, they wait forever.)
 pub(crate) fn wait<N: Naming + Send + Sync, R: Threads + Wait + Clock + Sync>(
     rt: &R,
     bench: &Bench<N>,

@@ -26,7 +26,7 @@ use Rattle.kf_core.proofs.SlotStates.{in_place}
 abbrev pub IsKeyed : List SlotState → Tree → Type 0
 IsKeyed states t = (slot : ℕ) (s : SlotState) (r : Record) → slice_get states slot ≡ Some s → slice_get t slot ≡ Some (Some r) → r.key ≡ record { slot = slot; generation = s.generation }
 
--- the item at a place after a change of some records
+-- after a change of records that keeps their keys, the record at a place has the key that was there before
 changed_at : (t : Tree) (chosen : Record → Bool) (f : Record → Record) (slot : ℕ) (r : Record) → ((x : Record) → (f x).key ≡ x.key) → slice_get (change chosen f t) slot ≡ Some (Some r) → (x : Record) × (slice_get t slot ≡ Some (Some x)) × (r.key ≡ x.key)
 changed_at [] chosen f slot r keeps h = absurd (none-some _ h)
 changed_at (None ∷ t) chosen f zero r keeps h = absurd (none-some r (same_Some _ _ h))
@@ -43,7 +43,7 @@ changed_at (y ∷ t) chosen f (suc slot) r keeps h = changed_at t chosen f slot 
 change_keyed : (states : List SlotState) (t : Tree) (chosen : Record → Bool) (f : Record → Record) → ((x : Record) → (f x).key ≡ x.key) → IsKeyed states t → IsKeyed states (change chosen f t)
 change_keyed states t chosen f keeps keyed slot s r is there = let x = changed_at t chosen f slot r keeps there in x.2 ∙ keyed slot s x.0 is x.1
 
--- other marks of a linked node
+-- records have the keys of their slots after a linked node gets other marks
 marks_keyed : (w : BareWorld) (t : Tree) (key : Key) (m : NodeFlags) (m' : Option NodeFlags) → marks w key ≡ Some m → IsKeyed w.slots t → IsKeyed (with_marks w key m').slots t
 marks_keyed w t key m m' linked keyed slot s r is there = elim (after_write w.slots key.slot slot (slot_state key.generation m') s is) [
   | inl p ↦ keyed slot (slot_state key.generation (Some m)) r (subst (λ x. slice_get w.slots x ≡ Some (slot_state key.generation (Some m))) p.0 (in_place (slice_get w.slots key.slot) key.generation m linked)) there
@@ -51,7 +51,7 @@ marks_keyed w t key m m' linked keyed slot s r is there = elim (after_write w.sl
   | inr p ↦ keyed slot s r p.1 there
 ]
 
--- a birth
+-- records have the keys of their slots after a birth
 born_keyed : (w : BareWorld) (t : Tree) (key : Key) (m : Option NodeFlags) (new : Record) → new.key ≡ key → IsKeyed w.slots t → IsKeyed (with_marks w key m).slots (slice_set t key.slot (Some new))
 born_keyed w t key m new e keyed slot s r is there = elim (after_write w.slots key.slot slot (slot_state key.generation m) s is) [
   | inl p ↦ elim (after_write t key.slot slot (Some new) (Some r) there) [
@@ -64,7 +64,7 @@ born_keyed w t key m new e keyed slot s r is there = elim (after_write w.slots k
   ]
 ]
 
--- one fewer slot has a record
+-- records have the keys of their slots after a slot is emptied
 empty_keyed : (states : List SlotState) (t : Tree) (slot' : ℕ) → IsKeyed states t → IsKeyed states (slice_set t slot' None)
 empty_keyed states t slot' keyed slot s r is there = elim (after_set t slot' slot None (Some r) there) [
   | inl e ↦ absurd (none-some r e)
@@ -118,7 +118,7 @@ opening_keyed zero start slot s r is there = absurd (none-some _ is)
 opening_keyed (suc n) start zero s r is there = ap (λ (x : Record). x.key) (sym (same_Some _ _ (same_Some _ _ there))) ∙ ap (λ (x : SlotState). record { slot = 0; generation = x.generation }) (same_Some _ _ is)
 opening_keyed (suc n) start (suc slot) s r is there = absurd (no_record n start slot r there)
 
--- a key in the tree and in the list of slots
+-- a key has the same marks in the tree and in the list of slots
 told_same : (key : Key) (last : ℕ) (linked : Option Record) → ((r : Record) → linked ≡ Some r → r.key ≡ record { slot = key.slot; generation = last }) →
     option_map (λ (r : Record). r.marks) (with_key key linked) ≡ cond (nat_eq last key.generation) (option_map (λ (r : Record). r.marks) linked) None
 told_same key last None keyed = elim (nat_eq last key.generation) as (λ b. ◌≡◌ {A = Option NodeFlags} None (cond b None None)) [ true ↦ refl | false ↦ refl ]

@@ -56,11 +56,11 @@ entered_shows : (b : Bool) → is_hiding (cond b Running Turned) ≡ false
 entered_shows true = refl
 entered_shows false = refl
 
--- a step of a caller that hides its node both before and after it, or neither
+-- tree and callers agree after a step of a caller that hides its node before and after it, or at neither time
 pub moved_told : (t : Tree) (w : BareWorld) (c : ℕ) (key : Key) (from to : Phase) → IsCaller w c key from → is_hiding to ≡ is_hiding from → AgreesHidden t w → AgreesHidden t (with_phase w c key to)
 moved_told t w c key from to there same told r is = told r is ∙ sym (hides_set w.callers r.key c (caller key from) (caller key to) there (ap (λ b. same_key key r.key && b) same))
 
--- other records, except for their key and hidden mark
+-- tree and callers agree after a change of records that leaves their keys and hidden marks as they are
 pub changed_told : (t : Tree) (w : BareWorld) (chosen : Record → Bool) (f : Record → Record) → ((r : Record) → (f r).key ≡ r.key) → ((r : Record) → (f r).hidden ≡ r.hidden) → AgreesHidden t w → AgreesHidden (change chosen f t) w
 changed_told t w chosen f keys marks told r' is =
     let x = mapped_from t (λ (r : Record). if chosen r then f r else r) (λ r. both (chosen r) r (λ (y : Record). y.key) (keys r)) r' is in
@@ -74,7 +74,7 @@ changed_told t w chosen f keys marks told r' is =
     hidden_too true r e = e
     hidden_too false r e = refl
 
--- the record of a key is hidden or shown as its caller moves, and no other record
+-- tree and callers agree if one key's record is hidden or shown as its caller moves, and no other changes
 pub put_told : (t : Tree) (w w' : BareWorld) (key : Key) (b : Bool) → is_hidden w' key ≡ b → ((k : Key) → k ≢ key → is_hidden w' k ≡ is_hidden w k) → AgreesHidden t w → AgreesHidden (change (λ r. same_key r.key key) (hidden_record b) t) w'
 put_told t w w' key b now others told r' is =
     let x = mapped_from t (λ (r : Record). if same_key r.key key then hidden_record b r else r) (λ r. its_key (same_key r.key key) r) r' is in

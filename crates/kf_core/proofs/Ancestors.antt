@@ -1,4 +1,4 @@
--- Following parents in a tree: no way to a key is longer than there are records.
+-- If following parents leads to a key, it does so in at most as many steps as the tree has records.
 use Rattle.std.proofs.Common.{◌≡◌, ◌≢◌, ◌⊎◌, inl, inr, ℕ, zero, suc, ◌+◌, ◌<◌, ◌≤◌, [], ◌∷◌, length, refl, ap, arith, sym, ◌∙◌, subst, true, false, cond, slice_set, ◌↔◌}
 use Rattle.std.specs.Prelude.{slice_get, Option, None, Some, IsTrue, is_some, count_by}
 use Rattle.std.specs.Option.{option_and_then}
@@ -13,12 +13,12 @@ use Rattle.kf_core.proofs.Lists.{slice_get-set_same, slice_get-set_other}
 use Rattle.kf_core.proofs.Climbs.{meets_to, meets_from}
 use Rattle.kf_core.proofs.FoundRecords.{found_in}
 
--- what a chain of options found
+-- the parts of a chain of options that found something
 pub chained : {A B : Type 0} (f : A → Option B) (o : Option A) (y : B) → option_and_then f o ≡ Some y → (x : A) × (o ≡ Some x) × (f x ≡ Some y)
 chained f None y h = absurd (none-some y h)
 chained f (Some x) y h = (x, refl, h)
 
--- a write elsewhere leaves a key as it is
+-- a write to another slot leaves the record of a key as it is
 pub record_other : (t : Tree) (slot : ℕ) (o : Option Record) (key : Key) → key.slot ≢ slot → record_at (slice_set t slot o) key ≡ record_at t key
 record_other t slot o key ne = ap (option_and_then (with_key key)) (slice_get-set_other t slot key.slot o ne)
 
@@ -29,18 +29,18 @@ ancestor_keeps t u same (suc n) k a h =
     let c : (p : Key) × (parent_of t k ≡ Some p) × (ancestor t n p ≡ Some a) = chained (ancestor t n) (parent_of t k) a h in
     ap (option_and_then (ancestor u n)) (same k c.0 c.1) ∙ ancestor_keeps t u same n c.0 a c.2
 
--- one more step
+-- an ancestor of the parent is an ancestor of the key, one step further up
 pub ancestor_more : (t : Tree) (n : ℕ) (k p a : Key) → parent_of t k ≡ Some p → ancestor t n p ≡ Some a → ancestor t (suc n) k ≡ Some a
 ancestor_more t n k p a e h = ap (option_and_then (ancestor t n)) e ∙ h
 
--- the place of a record is emptied
+-- the tree with the slot of this key emptied
 abbrev pub without : Tree → Key → Tree
 without t key = slice_set t key.slot None
 
 pub parent_parts : (t : Tree) (k p : Key) → parent_of t k ≡ Some p → (r : Record) × (record_at t k ≡ Some r) × (r.parent ≡ Some p)
 parent_parts t k p h = chained (λ (r : Record). r.parent) (record_at t k) p h
 
--- two keys of linked nodes in one slot are one
+-- two keys of linked nodes in the same slot are equal
 pub one_slot : (t : Tree) (a b : Key) (r s : Record) → record_at t a ≡ Some r → record_at t b ≡ Some s → a.slot ≡ b.slot → a ≡ b
 one_slot t a b r s f g e =
     let i : IsIn t r × (r.key ≡ a) = found_in t a r f in
@@ -48,7 +48,7 @@ one_slot t a b r s f g e =
     let same : r ≡ s = same_Some r s (same_Some _ _ (sym i.0 ∙ (ap (slice_get t) (ap (λ (x : Key). x.slot) i.1 ∙ (e ∙ sym (ap (λ (x : Key). x.slot) j.1))) ∙ j.0))) in
     sym i.1 ∙ (ap (λ (x : Record). x.key) same ∙ j.1)
 
--- an emptied place shows no record, and the others show theirs
+-- a record that is found after a slot was emptied was found before, and is in another slot
 pub record_without : (t : Tree) (key k : Key) (r : Record) → record_at (without t key) k ≡ Some r → (record_at t k ≡ Some r) × (k.slot ≢ key.slot)
 record_without t key k r h = elim (eqb_tells k.slot key.slot) [
   | inl e ↦ absurd (
@@ -64,7 +64,7 @@ record_without t key k r h = elim (eqb_tells k.slot key.slot) [
     within (x ∷ xs) zero o o' h = omega arith
     within (x ∷ xs) (suc i) o o' h = let r : i < length xs = within xs i o o' h in omega arith
 
--- parents in a tree with one record less are parents in the tree
+-- a parent in the tree without one record is a parent in the tree
 pub without_parent : (t : Tree) (key k p : Key) → parent_of (without t key) k ≡ Some p → parent_of t k ≡ Some p
 without_parent t key k p h =
     let r : (r : Record) × (record_at (without t key) k ≡ Some r) × (r.parent ≡ Some p) = parent_parts (without t key) k p h in
@@ -96,7 +96,7 @@ count_is : (t : Tree) → count t ≡ count_by is_some t
 unfolding count
 count_is t = is_count_by count is_some refl (λ x xs. refl) t
 
--- a place that was filled or emptied
+-- emptying the slot of a record lowers the count by one
 count_set : (t : Tree) (slot : ℕ) (r : Record) (o : Option Record) → is_some o ≡ false → slice_get t slot ≡ Some (Some r) → suc (count (slice_set t slot o)) ≡ count t
 unfolding count
 count_set [] slot r o n h = absurd (none-some _ h)

@@ -27,7 +27,7 @@ same_key_is a b h = elim (keys_tell a b) [ inl e ↦ e.1 | inr e ↦ absurd (cc 
 pub same_key_self : (a : Key) → same_key a a ≡ true
 same_key_self a = elim (keys_tell a a) [ inl e ↦ e.0 | inr e ↦ absurd (e.1 refl) ]
 
--- the first of some steps
+-- a climb begins with its first step
 pub first_step : (up : Key → Option Key) (n : ℕ) (k x : Key) → climb up (suc n) k ≡ Some x → (p : Key) × (up k ≡ Some p) × (climb up n p ≡ Some x)
 first_step up n k x h = elim (up k) as (λ o. option_and_then (climb up n) o ≡ Some x → (p : Key) × (o ≡ Some p) × (climb up n p ≡ Some x)) [
   | None ↦ λ e. absurd (none-some x e)
@@ -37,13 +37,13 @@ first_step up n k x h = elim (up k) as (λ o. option_and_then (climb up n) o ≡
 pub after_step : (up : Key → Option Key) (n : ℕ) (k p : Key) → up k ≡ Some p → climb up (suc n) k ≡ climb up n p
 after_step up n k p e = ap (λ o. option_and_then (climb up n) o) e
 
--- more steps after some steps
+-- a longer climb goes on from the key that a shorter one has reached
 pub climb_rest : (up : Key → Option Key) (a b : ℕ) (k m : Key) → climb up a k ≡ Some m → climb up (a + b) k ≡ climb up b m
 climb_rest up zero b k m h = (let s : 0 + b ≡ b = omega arith in ap (λ n. climb up n k) s ∙ ap (climb up b) (same_Some k m h))
 climb_rest up (suc a) b k m h = (let f = first_step up a k m h in let s : suc a + b ≡ suc (a + b) = omega arith in
     ap (λ n. climb up n k) s ∙ after_step up (a + b) k f.0 f.1 ∙ climb_rest up a b f.0 m f.2)
 
--- steps cut in two
+-- a climb can be cut in two
 pub climb_cut : (up : Key → Option Key) (a b : ℕ) (k x : Key) → climb up (a + b) k ≡ Some x → (m : Key) × (climb up a k ≡ Some m) × (climb up b m ≡ Some x)
 climb_cut up zero b k x h = (let s : 0 + b ≡ b = omega arith in (k, refl, rw s at h))
 climb_cut up (suc a) b k x h =
@@ -52,7 +52,7 @@ climb_cut up (suc a) b k x h =
     let c = climb_cut up a b f.0 x f.2 in
     (c.0, after_step up a k f.0 f.1 ∙ c.1, c.2))
 
--- there is one way to a key from which no step leads up
+-- only one number of steps leads to a key from which no step leads up
 pub climb_unique : (up : Key → Option Key) (top : Key) → up top ≡ None → (a b : ℕ) (k : Key) → climb up a k ≡ Some top → climb up b k ≡ Some top → a ≡ b
 climb_unique up top e zero zero k h g = refl
 climb_unique up top e zero (suc b) k h g = (let f = first_step up b k top g in absurd (none-some f.0 (sym e ∙ ap up (sym (same_Some k top h)) ∙ f.1)))
@@ -67,7 +67,7 @@ pub no_return : (up : Key → Option Key) (top : Key) → up top ≡ None → (n
 no_return up top e n i k h g =
     (let same : suc i + n ≡ n = climb_unique up top e (suc i + n) n k (climb_rest up (suc i) n k k g ∙ h) h in absurd (omega arith))
 
--- two ways up that agree along the way
+-- two ways up lead to the same key if they take the same step from each key on the way
 pub climb_same : (up up' : Key → Option Key) (n : ℕ) (k : Key) → ((i : ℕ) (m : Key) → i < n → climb up i k ≡ Some m → up m ≡ up' m) → climb up n k ≡ climb up' n k
 climb_same up up' zero k h = refl
 climb_same up up' (suc n) k h =
@@ -97,7 +97,7 @@ meets_from up (suc m) (suc n) top k l h =
     let r : meets up m top (up k) ≡ true = rw f.1 (meets_from up m n top f.0 (omega arith) f.2) in
     elim (keys_tell k top) [ inl e ↦ rw e.0 refl | inr e ↦ rw e.0 r ])
 
--- what is left to climb after one more step of n
+-- after one more of n steps, what is left to climb starts from the parent
 pub meets_more : (up : Key → Option Key) (n i : ℕ) (top k p : Key) → i < n → same_key k top ≡ false → up k ≡ Some p → meets up (n - i) top (Some k) ≡ meets up (n - (i + 1)) top (Some p)
 meets_more up n i top k p l e u = (let s : n - i ≡ suc (n - (i + 1)) = omega arith in
     ap (λ j. meets up j top (Some k)) s ∙ ap (λ b. cond b true (meets up (n - (i + 1)) top (up k))) e ∙ ap (λ o. meets up (n - (i + 1)) top o) u)

@@ -1,4 +1,4 @@
--- In post-order no key stands twice.
+-- In post-order no key occurs twice.
 use Rattle.std.proofs.Common.{◌≡◌, ◌≢◌, ◌⊎◌, inl, inr, ℕ, zero, suc, ◌+◌, refl, ap, arith, sym, ◌∙◌, subst, true, false, List}
 use Rattle.std.specs.Prelude.{Some, AllPairs, slice_index_or}
 use Rattle.std.specs.declared.cmp.Ordering.TheVariants.{Less}

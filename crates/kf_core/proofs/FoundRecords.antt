@@ -44,7 +44,7 @@ find_at t k place h = ap (λ o. option_and_then (λ p. with_key k p) o) h
 pub with_other : (k : Key) (r : Record) → k ≢ r.key → with_key k (Some r) ≡ None
 with_other k r n = elim (keys_tell r.key k) [ inl e ↦ absurd (n (sym e.1)) | inr e ↦ rw e.0 refl ]
 
--- a write of a place that has nothing of the key, over one that had nothing of it
+-- a write to a slot changes nothing for a key that is neither in the old nor in the new content of the slot
 pub find_kept : (t : Tree) (slot : ℕ) (old new : Option Record) (k : Key) → slice_get t slot ≡ Some old → with_key k old ≡ None → with_key k new ≡ None → record_at (slice_set t slot new) k ≡ record_at t k
 find_kept t slot old new k h o n = elim (eqb_tells k.slot slot) [
   | inl e ↦ (let was : slice_get t k.slot ≡ Some old = ap (λ i. slice_get t i) e.1 ∙ h in
@@ -84,7 +84,7 @@ module _ (t : Tree) (root : Key) (l : Lawful t root) where
   pub way_shorter : (n : ℕ) (k : Key) → ancestor t n k ≡ Some root → n < length t
   way_shorter n k h = (let s = way_short t n k root _ root_found root_parent h in let c = count_by-le-length is_some t in omega (arith, s, c))
 
-  -- what is met on the way up from a record is a record
+  -- each key that is met on the way up from a record has a record
   pub met_linked : (n : ℕ) (r : Record) (m : Key) → IsIn t r → ancestor t n r.key ≡ Some m → (s : Record) × (IsIn t s) × (s.key ≡ m)
   met_linked zero r m h c = (r, h, same_Some r.key m c)
   met_linked (suc n) r m h c =

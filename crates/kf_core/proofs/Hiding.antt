@@ -13,7 +13,7 @@ use Rattle.kf_core.specs.Phases.{saw_drain, saw_unused, is_hiding}
 use Rattle.kf_core.proofs.Climbs.{same_key_self, same_key_is}
 use Rattle.kf_core.proofs.Lists.{after_write}
 
--- a key that one caller of the list hides
+-- one caller of the list hides the key
 pub record HiddenBy (cs : List Caller) (key : Key) : Type 0 where
   pub place : ℕ
   pub item : Caller
@@ -67,7 +67,7 @@ hidden_has w key e =
 pub none_hides : (w : BareWorld) (key : Key) → ((c : ℕ) (p : Phase) → IsCaller w c key p → is_hiding p ≡ true → ⊥) → is_hidden w key ≡ false
 none_hides w key none = not_false (is_hidden w key) (λ e. let r = hidden_has w key e in none r.0 r.1 r.2 r.3)
 
--- a live node has the marks of one, and is not hidden
+-- a live node has the marks of a live node, and is not hidden
 pub live_has_marks : (w : BareWorld) (key : Key) → is_live w key ≡ true → are_live (marks w key) ≡ true
 live_has_marks w key e = (both (are_live (marks w key)) (not (is_hidden w key)) e).0
 
@@ -82,7 +82,7 @@ live_is_shown w key e = go (is_hidden w key) (both (are_live (marks w key)) (not
 pub hider_not_live : (w : BareWorld) (c : ℕ) (key : Key) (p : Phase) → IsCaller w c key p → is_hiding p ≡ true → is_live w key ≡ false
 hider_not_live w c key p there hiding = not_false (is_live w key) (λ live. not_both (is_hidden w key) (hider_hidden w c key p there hiding) (live_is_shown w key live))
 
--- different phases
+-- what follows from a caller's phase
 pub drain_unused : (p : Phase) → saw_drain p ≡ true → saw_unused p ≡ true
 drain_unused Still h = cc
 drain_unused Turned h = cc
@@ -114,7 +114,7 @@ hiding_holds p h e = let x : is_hiding Spent ≡ true = subst (λ q. is_hiding q
 abbrev pub OneHides : List Caller → Type 0
 OneHides cs = (c : ℕ) (key : Key) (p : Phase) → slice_get cs c ≡ Some (record { key = key; phase = p }) → IsTrue (is_hiding p) → (d : ℕ) (q : Phase) → slice_get cs d ≡ Some (record { key = key; phase = q }) → IsTrue (is_hiding q) → d ≡ c
 
--- a caller goes to another phase; if it hides its key then, it did before, or nobody did
+-- a caller goes to another phase; if it hides its key there, it did so before, or nobody did
 pub one_after_set : (w : BareWorld) (c : ℕ) (key : Key) (from to : Phase) → OneHides w.callers → IsCaller w c key from → (is_hiding to ≡ true → (is_hiding from ≡ true) ⊎ (is_hidden w key ≡ false)) → OneHides (slice_set w.callers c (record { key = key; phase = to }))
 one_after_set w c key from to one was hiding a k p ha pa b q hb qb =
     elim (after_write w.callers c a (moved to) (record { key = k; phase = p }) ha) [

@@ -1,4 +1,4 @@
--- Each step keeps what is safe.
+-- Each step from a safe world leads to a safe world.
 use Rattle.std.proofs.Common.{◌≡◌, ◌≢◌, ◌⊎◌, inl, inr, ℕ, List, refl, ap, slice_set, sym, ◌∙◌, subst, Bool, true, false, cond}
 use Rattle.std.specs.Prelude.{slice_get, Option, None, Some, is_some, IsTrue, IsFalse}
 use Rattle.std.proofs.lemmas.Option.{same_Some, slice_get_within}
@@ -29,11 +29,11 @@ one_key w c k l p q h g =
     let e : ◌≡◌ {A = Caller} (record { key = k; phase = p }) (record { key = l; phase = q }) = same_Some _ _ (sym h ∙ g) in
     (ap (λ (x : Caller). x.key) e, ap (λ (x : Caller). x.phase) e)
 
--- what holds of each caller's key and phase
+-- the relation holds for the key and the phase of each caller
 abbrev pub Each : List Caller → (Key → Phase → Type 0) → Type 0
 Each cs R = (c : ℕ) (key : Key) (phase : Phase) → slice_get cs c ≡ Some (record { key = key; phase = phase }) → R key phase
 
--- each caller of the list is the new one, or an old one
+-- each caller of the new list has this key and this phase, or was at its place in the old list
 abbrev pub OneNew : List Caller → Key → Phase → List Caller → Type 0
 OneNew cs key phase cs' = (c : ℕ) (y : Caller) → slice_get cs' c ≡ Some y → (◌≡◌ {A = Caller} (record { key = key; phase = phase }) y) ⊎ (slice_get cs c ≡ Some y)
 
@@ -61,7 +61,7 @@ module _ (w : BareWorld) (cs : List Caller) (key : Key) (phase : Phase)
     (gone : phase ≡ Parted → IsFalse (is_linked w key))
     (held : phase ≢ Spent → IsLast w key.slot key.generation)
     (one : OneHides cs) where
-  -- one caller goes to another phase or is new, and the rule allows its phase
+  -- the world stays safe if one caller goes to another phase or is new, and the rule allows its phase
   pub caller_keeps : Safe (record { slots = w.slots; callers = cs })
   caller_keeps = record {
     none_running = λ c k p h past d run.
@@ -80,7 +80,7 @@ module _ (w : BareWorld) (cs : List Caller) (key : Key) (phase : Phase)
     running_linked = λ c k h. each_new w.callers cs key phase new (λ k p. p ≡ Running → IsTrue (is_linked w k)) (λ e. live_linked (marks w key) (live_has_marks w key (runs e))) (λ c k p h e. safe.running_linked c k (subst (λ x. IsCaller w c k x) e h)) c k Running h refl;
   }
 
--- the key of a caller after a change of slots
+-- what stays true of a caller's key when slots change
 pub record Remains (w : BareWorld) (ps : List SlotState) (key : Key) (phase : Phase) : Type 0 where
   pub doomed : IsTrue (is_doomed w key) → IsTrue (is_doomed (record { slots = ps; callers = w.callers }) key)
   pub gone : IsFalse (is_linked w key) → IsFalse (is_linked (record { slots = ps; callers = w.callers }) key)
@@ -103,7 +103,7 @@ slots_keep w ps safe keeps = record {
 pub same_key : (a b : Key) → a.slot ≡ b.slot → a.generation ≡ b.generation → a ≡ b
 same_key a b s g = ap (λ (x : ℕ). record { slot = x; generation = a.generation }) s ∙ ap (λ (x : ℕ). record { slot = b.slot; generation = x }) g
 
--- a place, with this generation and these marks
+-- the state of a slot with this generation and these marks
 abbrev pub slot_state : ℕ → Option NodeFlags → SlotState
 slot_state g m = record { generation = g; marks = m }
 
@@ -118,14 +118,15 @@ other_remains w slot p key phase ne =
       linked = λ _ h. subst (λ (o : Option SlotState). is_some (marks_in o key.generation) ≡ true) e h;
     }
 
--- the marks of a linked node whose place was written
+-- what the slot of a linked node has after other marks are written
 pub written : (w : BareWorld) (key : Key) (m : NodeFlags) (m' : Option NodeFlags) → marks w key ≡ Some m → slice_get (with_marks w key m').slots key.slot ≡ Some (record { generation = key.generation; marks = m' })
 written w key m m' h = slice_get-set_same w.slots key.slot (record { generation = key.generation; marks = m' }) (slice_get_within w.slots key.slot _ (in_place (slice_get w.slots key.slot) key.generation m h))
 
 pub marks_written : (w : BareWorld) (key : Key) (m : NodeFlags) (m' : Option NodeFlags) → marks w key ≡ Some m → marks (with_marks w key m') key ≡ m'
 marks_written w key m m' h = ap (λ (o : Option SlotState). marks_in o key.generation) (written w key m m' h) ∙ shown key.generation m'
 
--- other marks of a linked node: it stays doomed if it was, and linked if a caller is running on it
+-- what is true of a caller's key stays true if the linked node gets other marks, but stays doomed if it was,
+-- and linked if the caller is running on it
 pub own_remains : (w : BareWorld) (key : Key) (phase : Phase) (m : NodeFlags) (m' : Option NodeFlags) → marks w key ≡ Some m → (m.doomed ≡ true → are_doomed m' ≡ true) → (phase ≡ Running → is_some m' ≡ true) → Remains w (with_marks w key m').slots key phase
 own_remains w key phase m m' h dooms links =
     let e : marks (with_marks w key m') key ≡ m' = marks_written w key m m' h in
@@ -143,7 +144,8 @@ holds_linked w key k m h last s =
     let same : last.0 ≡ slot_state key.generation (Some m) = same_Some _ _ (sym last.1 ∙ there) in
     same_key key k (sym s) (sym (ap (λ (p : SlotState). p.generation) same) ∙ last.2)
 
--- other marks of a linked node
+-- the world stays safe if a linked node gets other marks, but stays doomed if it was, and linked if a caller
+-- is running on it
 pub marks_keep : (w : BareWorld) (key : Key) (m : NodeFlags) (m' : Option NodeFlags) → Safe w → marks w key ≡ Some m → (m.doomed ≡ true → are_doomed m' ≡ true) → (NoneRunning w key ⊎ (is_some m' ≡ true)) → Safe (with_marks w key m')
 marks_keep w key m m' safe h dooms links = slots_keep w (with_marks w key m').slots safe (λ c k p is holds. elim (eqb_tells k.slot key.slot) [
   | inl s ↦ (let e : key ≡ k = holds_linked w key k m h (safe.held_last c k p is holds) s.1 in
@@ -158,7 +160,7 @@ born_keeps w key safe may = slots_keep w (with_marks w key (Some fresh_marks)).s
   | inr n ↦ other_remains w key.slot (slot_state key.generation (Some fresh_marks)) k p n.1
 ])
 
--- different phases
+-- what follows from a caller's phase
 pub waiting_holds : (p : Phase) → is_waiting p ≡ true → p ≢ Spent
 waiting_holds p h e = let x : is_waiting Spent ≡ true = subst (λ q. is_waiting q ≡ true) e h in cc
 
@@ -177,7 +179,7 @@ entered_not_hiding : (b : Bool) → is_hiding (cond b Running Turned) ≡ true �
 entered_not_hiding true e = cc
 entered_not_hiding false e = cc
 
--- a caller goes to a phase in which it isn't running and hasn't seen that nobody is
+-- the world stays safe if a caller goes to a phase in which it is not running and has not seen that nobody is
 plainly : (w : BareWorld) (c : ℕ) (key : Key) (from to : Phase) → Safe w → IsCaller w c key from → from ≢ Spent → (to ≡ Running → ⊥) → saw_unused to ≡ false → (is_hiding to ≡ true → (is_hiding from ≡ true) ⊎ (is_hidden w key ≡ false)) → Safe (with_phase w c key to)
 plainly w c key from to safe was held not_running not_past hiding = caller_keeps w (with_phase w c key to).callers key to safe
     (λ d y h. after_set w.callers c d (caller key to) y h)
@@ -188,7 +190,7 @@ plainly w c key from to safe was held not_running not_past hiding = caller_keeps
     (λ _. safe.held_last c key from was held)
     (one_after_set w c key from to safe.one_hides was hiding)
 
--- a caller goes on to see the drain, or that the node is gone
+-- the world stays safe if a caller goes on to see the drain, or that the node has left the tree
 past_now : (w : BareWorld) (c : ℕ) (key : Key) (from to : Phase) → Safe w → IsCaller w c key from → from ≢ Spent → (to ≡ Running → ⊥) → (IsTrue (saw_drain to) → IsTrue (is_doomed w key)) → NoneRunning w key → (to ≡ Parted → IsFalse (is_linked w key)) → (is_hiding to ≡ true → (is_hiding from ≡ true) ⊎ (is_hidden w key ≡ false)) → Safe (with_phase w c key to)
 past_now w c key from to safe was held not_running doomed alone gone hiding = caller_keeps w (with_phase w c key to).callers key to safe
     (λ d y h. after_set w.callers c d (caller key to) y h)
@@ -203,7 +205,7 @@ past_now w c key from to safe was held not_running doomed alone gone hiding = ca
 pub none_running : (w : BareWorld) (key : Key) → NoReference w key → NoneRunning w key
 none_running w key none c h = let x : has_reference Running ≡ false = none c Running h in cc
 
--- a try that gives a reference only if the node is live
+-- the world stays safe after a try that gives a reference only if the node is live
 entered : (w : BareWorld) (c : ℕ) (key : Key) (from : Phase) (given : Bool) → (given ≡ true → is_live w key ≡ true) → Safe w → IsCaller w c key from → from ≢ Spent → Safe (with_phase w c key (cond given Running Turned))
 entered w c key from given live safe was held = caller_keeps w (with_phase w c key (cond given Running Turned)).callers key (cond given Running Turned) safe
     (λ d y h. after_set w.callers c d (caller key (cond given Running Turned)) y h)
@@ -219,7 +221,7 @@ pub linked_last : (w : BareWorld) (key : Key) → (m : Option NodeFlags) → mar
 linked_last w key None e h = cc
 linked_last w key (Some m) e h = (slot_state key.generation (Some m), in_place (slice_get w.slots key.slot) key.generation m e, refl)
 
--- so is a node with live marks
+-- a node with live marks is in its slot, too
 pub live_last : (w : BareWorld) (key : Key) → IsTrue (are_live (marks w key)) → IsLast w key.slot key.generation
 live_last w key live = linked_last w key (marks w key) refl (live_linked (marks w key) live)
 
@@ -236,12 +238,12 @@ pin_keeps w key safe may = caller_keeps w (with_caller w key).callers key Still 
 idle_holds : (p : Phase) → may_release p ≡ true → p ≢ Spent
 idle_holds p h e = let x : may_release Spent ≡ true = subst (λ q. may_release q ≡ true) e h in cc
 
--- the marks of a linked node
+-- a linked node has marks
 pub linked_marks : (o : Option NodeFlags) → is_some o ≡ true → (m : NodeFlags) × (o ≡ Some m)
 linked_marks None h = cc
 linked_marks (Some m) h = (m, refl)
 
--- each step keeps what is safe
+-- each step from a safe world leads to a safe world
 pub step_keeps : (w : BareWorld) (e : Event) (w' : BareWorld) → Safe w → BareStep w e w' → Safe w'
 step_keeps w (Born key parent name node) w' safe s = subst Safe (sym s.1) (born_keeps w key safe s.0)
 step_keeps w (Rise key) w' safe s = subst Safe (sym s.1) (marks_keep w key fresh_marks (Some live_marks) safe s.0 (λ d. d) (inr refl))

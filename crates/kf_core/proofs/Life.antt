@@ -55,7 +55,7 @@ childless m cs (suc (suc n)) r h e = none-some _ h
 other_name : a ≡ b → ⊥
 other_name e = let q : ◌≡◌ {A = ℕ} 97 98 = ap (λ (l : List ℕ). get_or l 0 0) e in absurd (omega (arith, q))
 
--- no node of the root has the name that the node gets
+-- no child of the root has the name that the node gets
 name_free : (slot : ℕ) (r : Record) → slice_get (tree (at 1 (Some (file_at first a live_marks)) [])) slot ≡ Some (Some r) → r.parent ≡ Some root → r.name ≡ b → ⊥
 name_free zero r h e n = none-some root (ap (λ (x : Record). x.parent) (same_Some _ _ (same_Some _ _ h)) ∙ e)
 name_free (suc zero) r h e n =

@@ -33,7 +33,7 @@ module _ {X : Type 0} where
   after_push (x ∷ xs) zero v y h = inr h
   after_push (x ∷ xs) (suc j) v y h = after_push xs j v y h
 
-  -- the same, with the place of what was written
+  -- an item after a write is the one that was written, at its place, or was there before at another place
   pub after_write : (xs : List X) (i j : ℕ) (v y : X) → slice_get (slice_set xs i v) j ≡ Some y → ((i ≡ j) × (v ≡ y)) ⊎ ((i ≢ j) × (slice_get xs j ≡ Some y))
   after_write [] i j v y h = absurd (none-some y h)
   after_write (x ∷ xs) zero zero v y h = inl (refl, same_Some v y h)
@@ -76,7 +76,7 @@ module _ {X : Type 0} where
   pub count_mapped : (g : X → X) (xs : List (Option X)) → count_by is_some (map (option_map g) xs) ≡ count_by is_some xs
   count_mapped g xs = count_on g 0 xs
 
-  -- a test that passes less is counted less
+  -- if all items that pass the second test pass the first, the second counts at most as many as the first
   module _ (p q : X → Bool) (weaker : (x : X) → q x ≡ true → p x ≡ true) where
     one_le : (x : X) → cond (q x) 1 0 ≤ cond (p x) 1 0
     one_le x = elim (q x) as (λ b. q x ≡ b → cond b 1 0 ≤ cond (p x) 1 0) [

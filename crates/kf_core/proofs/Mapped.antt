@@ -13,7 +13,7 @@ module _ (t : Tree) (g : Record → Record) (same : (r : Record) → (g r).key �
   abbrev pub mapped : Tree
   mapped = map (option_map g) t
 
-  -- what is in a slot comes from what was there
+  -- the record in a slot comes from the record that was there
   pub from_slot : (slot : ℕ) (r' : Record) → slice_get mapped slot ≡ Some (Some r') → (r : Record) × (slice_get t slot ≡ Some (Some r)) × (r' ≡ g r)
   from_slot slot r' h =
       elim (slice_get t slot) as (λ o. slice_get t slot ≡ o → option_map (option_map g) o ≡ Some (Some r') → (r : Record) × (slice_get t slot ≡ Some (Some r)) × (r' ≡ g r)) [

@@ -1,4 +1,4 @@
--- The tree of only the root agrees with the opening world.
+-- The tree that has only the root agrees with the opening world.
 use Rattle.std.proofs.Common.{◌≡◌, inl, inr, ℕ, zero, suc, ◌+◌, ◌≤◌, refl, arith, sym, ◌∙◌, Bool, true, false, cond, length, replicate, ◌==◌}
 use Rattle.std.specs.Prelude.{Option, None, Some, slice_get}
 use Rattle.std.specs.Option.{option_map, option_and_then}
@@ -18,7 +18,7 @@ use Rattle.kf_core.proofs.Lists.{length_set}
 abbrev pub root_key : ℕ → Key
 root_key start = record { slot = 0; generation = start + 1 }
 
--- each slot is empty in both, or the root's in both
+-- each slot is empty in both, or has the root in both
 empty_slot : (start slot : ℕ) (n : ℕ) (key : Key) → marks_in (slice_get (replicate n (let s : SlotState = record { generation = start; marks = None } in s)) slot) key.generation ≡ option_map (λ (r : Record). r.marks) (option_and_then (with_key key) (slice_get (replicate n (let o : Option Record = None in o)) slot))
 empty_slot start slot zero key = refl
 empty_slot start zero (suc n) key = nothing (start == key.generation)

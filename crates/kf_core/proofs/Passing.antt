@@ -1,4 +1,4 @@
--- What lasts: a slot's generation never goes back, and a key that was drained stays so.
+-- What lasts: a slot's generation never goes back, and a drained key stays drained.
 use Rattle.std.proofs.Common.{◌≡◌, ◌≢◌, inl, inr, ℕ, ◌+◌, ◌≤◌, List, refl, ap, arith, sym, ◌∙◌, subst, Bool, true, false, cond}
 use Rattle.std.specs.Prelude.{slice_get, Option, None, Some, IsTrue, ◌&&◌, not}
 use Rattle.std.proofs.lemmas.Option.{same_Some, slice_get_within}
@@ -20,7 +20,7 @@ use Rattle.kf_core.proofs.SlotStates.{live_or_doomed, doomed_not_live, in_place}
 use Rattle.kf_core.proofs.Hiding.{live_has_marks}
 use Rattle.kf_core.proofs.Keeping.{OneNew, each_new, caller, slot_state, same_key, linked_marks}
 
--- the slot of the key has come to its generation
+-- the slot of the key has reached the key's generation
 pub record HasCome (w : BareWorld) (key : Key) : Type 0 where
   pub last : SlotState
   pub there : slice_get w.slots key.slot ≡ Some last
@@ -37,7 +37,7 @@ pub record Finished (w : BareWorld) (key : Key) : Type 0 where
   pub alone : NoneRunning w key
   pub come : HasCome w key
 
--- a place was written whose generation was no greater
+-- a slot that has reached a key still has after a write with a generation no smaller than before
 pub written_come : (w : BareWorld) (key k : Key) (m : Option NodeFlags) (p : SlotState) → slice_get w.slots key.slot ≡ Some p → p.generation ≤ key.generation → HasCome w k → HasCome (with_marks w key m) k
 written_come w key k m p is le h = elim (eqb_tells k.slot key.slot) [
   | inl s ↦ record {
@@ -55,11 +55,11 @@ written_come w key k m p is le h = elim (eqb_tells k.slot key.slot) [
   }
 ]
 
--- of a linked node
+-- a slot that has reached a key still has after a linked node gets other marks
 pub linked_come : (w : BareWorld) (key k : Key) (m : NodeFlags) (m' : Option NodeFlags) → marks w key ≡ Some m → HasCome w k → HasCome (with_marks w key m') k
 linked_come w key k m m' e h = written_come w key k m' (slot_state key.generation (Some m)) (in_place (slice_get w.slots key.slot) key.generation m e) (omega arith) h
 
--- at a birth
+-- a slot that has reached a key still has after a birth
 pub born_come : (w : BareWorld) (key k : Key) → MayBeBorn w key → HasCome w k → HasCome (with_marks w key (Some fresh_marks)) k
 born_come w key k may h = written_come w key k (Some fresh_marks) (slot_state may.last None) may.unlinked (let e : key.generation ≡ may.last + 1 = may.next in omega arith) h
 
@@ -84,7 +84,7 @@ step_come w (Show c) w' k s h = subst (λ x. HasCome x k) (sym s.2) (record { la
 step_come w (Release c) w' k s h = subst (λ x. HasCome x k) (sym s.4) (record { last = h.last; there = h.there; come = h.come })
 step_come w (Undo c) w' k s h = subst (λ x. HasCome x k) (sym s) h
 
--- a place that was written shows doomed to each key of its slot, if it does to its own
+-- after a write to a slot, each key of it is doomed, except the written key if its new marks are not doomed
 pub doomed_written : (w : BareWorld) (key k : Key) (m : Option NodeFlags) (p : SlotState) → slice_get w.slots key.slot ≡ Some p → k.slot ≡ key.slot → (key.generation ≡ k.generation → are_doomed m ≡ true) → is_doomed (with_marks w key m) k ≡ true
 doomed_written w key k m p is s d =
     let there : slice_get (with_marks w key m).slots k.slot ≡ Some (slot_state key.generation m) = ap (λ x. slice_get (with_marks w key m).slots x) s ∙ slice_get-set_same w.slots key.slot (slot_state key.generation m) (slice_get_within w.slots key.slot p is) in
@@ -121,11 +121,11 @@ born_lost w key k may f = record {
   come = born_come w key k may f.come;
 }
 
--- a step that changes only callers
+-- a key that is doomed for good stays so when only callers change
 caller_lost : (w : BareWorld) (cs : List Caller) (k : Key) → Lost w k → Lost (record { slots = w.slots; callers = cs }) k
 caller_lost w cs k f = record { doomed = f.doomed; come = record { last = f.come.last; there = f.come.there; come = f.come.come } }
 
--- what is doomed for good stays so
+-- a key that is doomed for good stays so
 pub step_lost : (w : BareWorld) (e : Event) (w' : BareWorld) (k : Key) → BareStep w e w' → Lost w k → Lost w' k
 step_lost w (Born key parent name node) w' k s f = subst (λ x. Lost x k) (sym s.1) (born_lost w key k s.0 f)
 step_lost w (Rise key) w' k s f = subst (λ x. Lost x k) (sym s.1) (linked_lost w key k fresh_marks (Some live_marks) s.0 (λ d. d) f)
@@ -150,7 +150,7 @@ step_lost w (Undo c) w' k s f = subst (λ x. Lost x k) (sym s) f
 pub lost_not_live : (w : BareWorld) (k : Key) → Lost w k → is_live w k ≡ false
 lost_not_live w k f = ap (λ b. b && not (is_hidden w k)) (doomed_not_live (marks w k) f.doomed)
 
--- what is finished is doomed for good
+-- a finished key is doomed for good
 lost : (w : BareWorld) (k : Key) → Finished w k → Lost w k
 lost w k f = record { doomed = f.doomed; come = f.come }
 
@@ -164,7 +164,7 @@ born_finished w key k may f =
     let d : Lost (with_marks w key (Some fresh_marks)) k = born_lost w key k may (lost w k f) in
     record { doomed = d.doomed; alone = f.alone; come = d.come }
 
--- a caller goes to another phase or is new, and is running only on a live key
+-- a finished key stays so if one caller goes to another phase or is new, and runs only if the key is live
 pub caller_finished : (w : BareWorld) (cs : List Caller) (key : Key) (phase : Phase) (k : Key) → OneNew w.callers key phase cs → (phase ≡ Running → is_live w key ≡ true) → Finished w k → Finished (record { slots = w.slots; callers = cs }) k
 caller_finished w cs key phase k new runs f = record {
   doomed = f.doomed;
@@ -182,7 +182,7 @@ entered_runs : (b : Bool) → cond b Running Turned ≡ Running → b ≡ true
 entered_runs true e = refl
 entered_runs false e = cc
 
--- what is finished stays so
+-- a finished key stays so
 pub step_finished : (w : BareWorld) (e : Event) (w' : BareWorld) (k : Key) → BareStep w e w' → Finished w k → Finished w' k
 step_finished w (Born key parent name node) w' k s f = subst (λ x. Finished x k) (sym s.1) (born_finished w key k s.0 f)
 step_finished w (Rise key) w' k s f = subst (λ x. Finished x k) (sym s.1) (linked_finished w key k fresh_marks (Some live_marks) s.0 (λ d. d) f)

@@ -1,4 +1,4 @@
--- Runs of the world: what each step keeps holds at the end.
+-- What each step keeps is true at the end of every run.
 use Rattle.std.proofs.Common.{◌≡◌, ◌≢◌, ◌⊎◌, inl, inr, ℕ, ◌+◌, ◌≤◌, ◌<◌, Bool, true, false, cond, slice_set, List, [], ◌∷◌, refl, ap, arith, sym, ◌∙◌, subst}
 use Rattle.std.specs.Prelude.{slice_get, Option, None, Some, is_some, IsTrue, IsFalse}
 use Rattle.std.proofs.lemmas.Bool.Decides.{eqb_tells}
@@ -30,7 +30,7 @@ pub run_keeps : (P : BareWorld → Type 0) → ((w : BareWorld) (e : Event) (w' 
 run_keeps P keeps [] w w' r p = subst (λ x. P (bare x)) (sym r) p
 run_keeps P keeps (e ∷ es) w w' r p = run_keeps P keeps es r.0 w' r.2 (keeps (bare w) e (bare r.0) r.1.bare_step p)
 
--- the opening world has no callers
+-- the opening world is safe, since it has no callers
 pub opening_safe : (slots start : ℕ) → Safe (bare (opening slots start))
 opening_safe slots start = record {
   none_running = λ c key phase h. absurd (none-some _ h);
@@ -59,7 +59,7 @@ finished_for_good slots start before later u v w c key r s h l =
     let safe : Safe (bare v) = step_keeps (bare u) (Look c) (bare v) (run_safe slots start before u r) s.bare_step in
     (run_keeps (λ x. Finished x key) (λ x e y t f. step_finished x e y key t f) later v w l (drained_finished (bare v) c key safe h)).alone
 
--- no key to which its slot has come is born
+-- a key that its slot has already reached cannot be born
 not_again : (w : BareWorld) (key again : Key) → HasCome w key → MayBeBorn w again → key ≢ again
 not_again w key again h may e =
     let same : h.last ≡ slot_state may.last None = same_Some _ _ (sym h.there ∙ (ap (λ (x : Key). slice_get w.slots x.slot) e ∙ may.unlinked)) in
@@ -69,7 +69,7 @@ not_again w key again h may e =
     let g : key.generation ≡ again.generation = ap (λ (x : Key). x.generation) e in
     omega arith
 
--- a linked node's slot has come to its generation
+-- the slot of a linked node has reached the node's generation
 pub linked_has_come : (w : BareWorld) (key : Key) → IsTrue (is_linked w key) → HasCome w key
 linked_has_come w key linked =
     let last : IsLast w key.slot key.generation = linked_last w key (marks w key) refl linked in
@@ -92,7 +92,7 @@ pub never_twice : (between : List Event) (t u v w : World) (key again parent nex
 never_twice between t u v w key again parent next_parent name next_name node next_node first r second =
     linked_once between u v w key again next_parent next_name next_node (born_linked (bare t) (bare u) key first.bare_step.0 first.bare_step.1) r second
 
--- slots without records
+-- slots without records are bare slots without marks
 bare_empty : (n g : ℕ) → map bare_slot (replicate n (record { last = g; linked = None })) ≡ replicate n (record { generation = g; marks = None })
 bare_empty zero g = refl
 bare_empty (suc n) g = ap (λ (states : List SlotState). record { generation = g; marks = None } ∷ states) (bare_empty n g)

@@ -18,7 +18,7 @@ pub doomed_not_live : (m : Option NodeFlags) → are_doomed m ≡ true → are_l
 doomed_not_live None d = refl
 doomed_not_live (Some m) d = elim (m.doomed) as (λ b. b ≡ true → (m.activated && not b) ≡ false) [ true ↦ λ x. grind arith | false ↦ λ x. cc ] d
 
--- what a live node's marks are
+-- a live node has marks, and is not doomed
 pub live_undoomed : (o : Option NodeFlags) → are_live o ≡ true → (m : NodeFlags) × (o ≡ Some m) × (m.doomed ≡ false)
 live_undoomed None l = cc
 live_undoomed (Some m) l = (m, refl, elim (m.doomed) as (λ b. (m.activated && not b) ≡ true → b ≡ false) [ true ↦ λ x. grind arith | false ↦ λ x. refl ] l)
@@ -31,7 +31,7 @@ pub doomed_if_gone : (m : Option NodeFlags) → is_some m ≡ false → are_doom
 doomed_if_gone None h = refl
 doomed_if_gone (Some m) h = cc
 
--- a linked node is in its place
+-- the slot of a linked node has the node's generation and marks
 pub in_place : (o : Option SlotState) (g : ℕ) (m : NodeFlags) → marks_in o g ≡ Some m → o ≡ Some (record { generation = g; marks = Some m })
 in_place None g m h = absurd (none-some m h)
 in_place (Some p) g m h = elim (eqb_tells p.generation g) [
@@ -39,6 +39,6 @@ in_place (Some p) g m h = elim (eqb_tells p.generation g) [
   | inr e ↦ absurd (none-some m (let is : None ≡ Some m = rw e.0 at h in is))
 ]
 
--- what a place shows of the node whose generation it has
+-- a slot shows its marks under its own generation
 pub shown : (g : ℕ) (m : Option NodeFlags) → marks_in (Some (record { generation = g; marks = m })) g ≡ m
 shown g m = ap (λ b. cond b m None) (eq-eqb g g refl)

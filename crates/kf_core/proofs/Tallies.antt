@@ -1,4 +1,4 @@
--- Counts of the items of a list that pass a test: what a write or one more item changes, and what a count says.
+-- How a write or one more item changes the number of items that pass a test, and what this number says.
 use Rattle.std.proofs.Common.{◌≡◌, ℕ, zero, suc, ◌+◌, ◌≤◌, List, [], ◌∷◌, ◌++◌, refl, ap, arith, slice_set, sym, ◌∙◌, subst, Bool, true, false}
 use Rattle.std.specs.Prelude.{slice_get, Some, count_by}
 use Rattle.std.proofs.lemmas.Option.{same_Some, none-some, slice_get_within, get_or_from_slice_get}
@@ -6,7 +6,7 @@ use Rattle.std.proofs.lemmas.List.Sums.{sum_by-set, sum_by_push, sum_by-cons}
 use Rattle.kf_core.specs.Tallies.{tally}
 
 module _ {X : Type 0} (p : X → Bool) where
-  -- a write takes the item out of the count that it replaces
+  -- a write takes the old item out of the count, and puts the new one in
   pub count_set : (xs : List X) (i : ℕ) (x v : X) → slice_get xs i ≡ Some x → count_by p (slice_set xs i v) + tally (p x) ≡ count_by p xs + tally (p v)
   count_set xs i x v h = subst (λ (y : X). count_by p (slice_set xs i v) + tally (p y) ≡ count_by p xs + tally (p v)) (get_or_from_slice_get xs i x x h) (sum_by-set (λ (y : X). tally (p y)) xs i v x (slice_get_within xs i x h))
 
@@ -50,7 +50,7 @@ module _ {X : Type 0} (p : X → Bool) where
         record { place = suc r.place; item = r.item; there = r.there; passes = r.passes })
   ] refl
 
--- two tests that pass together are equal
+-- two truth values that imply each other are equal
 pub same_bool : (a b : Bool) → (a ≡ true → b ≡ true) → (b ≡ true → a ≡ true) → a ≡ b
 same_bool true b f g = sym (f refl)
 same_bool false true f g = g refl

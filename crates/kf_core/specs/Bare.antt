@@ -28,24 +28,24 @@ marks w key = marks_in (slice_get w.slots key.slot) key.generation
 abbrev pub is_linked : BareWorld → Key → Bool
 is_linked w key = is_some (marks w key)
 
--- the caller hides this key
+-- whether the caller hides this key
 abbrev pub hides : Key → Caller → Bool
 hides key c = same_key c.key key && is_hiding c.phase
 
--- one of these callers hides this key
+-- whether one of these callers hides this key
 abbrev pub any_hides : Key → List Caller → Bool
 any_hides key [] = false
 any_hides key (c ∷ cs) = if hides key c then true else any_hides key cs
 
--- a caller hides the key, linked or not
+-- whether a caller hides the key, linked or not
 abbrev pub is_hidden : BareWorld → Key → Bool
 is_hidden w key = any_hides key w.callers
 
--- the key is linked, activated, not doomed and not hidden
+-- whether the key is linked, activated, not doomed and not hidden
 abbrev pub is_live : BareWorld → Key → Bool
 is_live w key = are_live (marks w key) && not (is_hidden w key)
 
--- the key is doomed, or no longer linked
+-- whether the key is doomed, or not linked
 abbrev pub is_doomed : BareWorld → Key → Bool
 is_doomed w key = are_doomed (marks w key)
 

@@ -12,14 +12,14 @@ pub record CallView (CallerId : Type 0) : Type 0 where
   pub phase : Phase
 
 module _ {CallerId : Type 0} where
-  -- a call of the same caller on the same key, which has a reference again
+  -- the call `after` is of the same caller on the same key as `before`, and has a reference
   pub record GivenBack (before after : CallView CallerId) : Type 0 where
     pub caller : after.caller ≡ before.caller
     pub key : after.key ≡ before.key
     pub reference : IsTrue (has_reference after.phase)
 
--- the result of a visit: no call was tried for; or a try returned none; or this was done under the call that
--- the try returned
+-- the result of a visit: there was no try for a call; or a try returned no call; or a try returned a call,
+-- and this was done under it
 pub data Visit (Done : Type 0) : Type 0 where
   unvisited : Visit Done
   tried : Option Done → Visit Done

@@ -14,11 +14,11 @@ use Rattle.kf_core.specs.Lawful.{root_record}
 abbrev pub change : (Record → Bool) → (Record → Record) → Tree → Tree
 change chosen f t = map (option_map (λ r. if chosen r then f r else r)) t
 
--- the record with the mark of an activated one, doomed or not as before
+-- the record as an activated one, doomed or not as before
 abbrev pub activated_record : Record → Record
 activated_record r = record r { marks = record { activated = true; doomed = r.marks.doomed } }
 
--- the record with the mark of a doomed one, activated or not as before
+-- the record as a doomed one, activated or not as before
 abbrev pub doomed_record : Record → Record
 doomed_record r = record r { marks = record { activated = r.marks.activated; doomed = true } }
 
@@ -26,7 +26,7 @@ doomed_record r = record r { marks = record { activated = r.marks.activated; doo
 abbrev pub hidden_record : Bool → Record → Record
 hidden_record b r = record r { hidden = b }
 
--- the record in this directory, under this name
+-- the record moved to this directory, under this name
 abbrev pub moved_record : Key → List ℕ → Record → Record
 moved_record dir name r = record r { parent = Some dir; name = name }
 
@@ -52,7 +52,7 @@ after t (Rename key dir name) = change (λ r. same_key r.key key) (moved_record 
 after t (Hide key) = change (λ r. same_key r.key key) (hidden_record true) t
 after t (Show key) = change (λ r. same_key r.key key) (hidden_record false) t
 
--- the tree of only the root, with this many slots
+-- the tree that has only the root, and this many slots
 abbrev pub root_alone : ℕ → Key → Tree
 root_alone count root = slice_set (replicate count None) root.slot (Some (root_record root))
 

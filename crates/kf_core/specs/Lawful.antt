@@ -12,8 +12,8 @@ abbrev pub root_record : Key → Record
 root_record key =
     record { key = key; parent = None; name = []; node = Dir; marks = live_marks; hidden = false }
 
--- the record's parent is a directory of the tree: if that is doomed, so is the record; and the name of the
--- record is lawful
+-- the record's parent is a directory of the tree; if that directory is doomed, so is the record; and the name
+-- of the record is lawful
 pub record HasDirectory (t : Tree) (r : Record) (parent : Key) : Type 0 where
   pub dir : Record
   pub known : record_at t parent ≡ Some dir
@@ -24,7 +24,7 @@ pub record HasDirectory (t : Tree) (r : Record) (parent : Key) : Type 0 where
 -- the records are one tree: a live root directory, each other record below it in a directory, and no two
 -- siblings with one name
 pub record Lawful (t : Tree) (root : Key) : Type 0 where
-  -- each record stands in its own slot, so no two have the same
+  -- each record is in the slot of its key, so no two records have the same key
   pub in_place : (slot : ℕ) (r : Record) → slice_get t slot ≡ Some (Some r) → r.key.slot ≡ slot
   -- the root is a live directory
   pub rooted : IsIn t (root_record root)

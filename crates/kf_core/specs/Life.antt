@@ -32,20 +32,20 @@ a = 97 ∷ []
 abbrev pub b : List ℕ
 b = 98 ∷ []
 
--- each node that is born in slot 1: a file of mode 0644 with the tag 7
+-- what each node born in slot 1 is: a file of mode 0644 with the tag 7
 abbrev pub file : Node
 file = File 420 7
 
--- the file of this key and name in the root, with these marks
+-- the record of this file, with this key, in the root under this name, with these marks
 abbrev pub file_at : Key → List ℕ → NodeFlags → Record
 file_at key name marks =
     record { key = key; parent = Some root; name = name; node = file; marks = marks; hidden = false }
 
--- a caller of the first node
+-- a caller of the first node, in this phase
 abbrev pub by : Phase → Caller
 by phase = record { key = first; phase = phase }
 
--- the root, slot 1 with its last generation and its record, and the callers
+-- the world of the root, of slot 1 with this last generation and this record, and of these callers
 abbrev pub at : ℕ → Option Record → List Caller → World
 at last linked callers = record {
   slots = record { last = 1; linked = Some (root_record root) }

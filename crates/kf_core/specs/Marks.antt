@@ -10,13 +10,13 @@ fresh_marks = record { activated = false; doomed = false }
 abbrev pub live_marks : NodeFlags
 live_marks = record { activated = true; doomed = false }
 
--- the node is linked, activated and not doomed: it is live unless a caller hides it (a node without marks is
--- not linked)
+-- whether the node is linked, activated and not doomed; if so, it is live unless a caller hides it (a node
+-- without marks is not linked)
 abbrev pub are_live : Option NodeFlags → Bool
 are_live None = false
 are_live (Some m) = m.activated && not m.doomed
 
--- a node that is no longer linked counts as doomed
+-- whether the node is doomed; a node that is not linked counts as doomed
 abbrev pub are_doomed : Option NodeFlags → Bool
 are_doomed None = true
 are_doomed (Some m) = m.doomed

@@ -22,7 +22,7 @@ abbrev pub later_parts : Option (List ℕ) → List (List ℕ)
 later_parts None = []
 later_parts (Some text) = slice_split is_slash text
 
--- the bytes after the slash with which a path begins
+-- the bytes after the slash with which a path begins, or None if it begins with no slash
 abbrev pub after_slash : List ℕ → Option (List ℕ)
 after_slash [] = None
 after_slash (byte ∷ bytes) = if is_slash byte then Some bytes else None

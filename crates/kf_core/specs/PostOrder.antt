@@ -5,7 +5,7 @@ use Rattle.kf_core.specs.declared.records.Record.{Record}
 use Rattle.kf_core.specs.Names.{IsBefore}
 use Rattle.kf_core.specs.Tree.{Tree, is_linked, IsIn, in_subtree}
 
--- a is in the subtree of one record, and b in that of a sibling whose name comes later
+-- a is in the subtree of one record, and b in the subtree of a sibling whose name comes later
 pub record AreApart (t : Tree) (a b : Key) : Type 0 where
   pub first : Record
   pub second : Record
@@ -16,7 +16,7 @@ pub record AreApart (t : Tree) (a b : Key) : Type 0 where
   pub over_a : IsTrue (in_subtree t first.key a)
   pub over_b : IsTrue (in_subtree t second.key b)
 
--- a comes before b in post-order: a is below b, or they are apart
+-- a comes before b in post-order: a is below b, or they are apart in this order
 abbrev pub StandsBefore : Tree → Key → Key → Type 0
 StandsBefore t a b = (IsTrue (in_subtree t b a) × (a ≢ b)) ⊎ AreApart t a b
 

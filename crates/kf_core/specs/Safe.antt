@@ -18,8 +18,9 @@ OnlyHider w c key = (d : ℕ) (phase : Phase) → IsCaller w d key phase → IsT
 abbrev pub NoneHolding : BareWorld → Key → Type 0
 NoneHolding w key = (c : ℕ) (phase : Phase) → IsCaller w c key phase → phase ≡ Spent
 
--- nobody is running on a node after a caller saw that nobody has a reference to it; each holder has the last
--- generation of its slot; and at most one caller hides a key
+-- nobody is running on a key on which a caller is drained, parted or hidden; the key of a drained or parted
+-- caller is doomed; the key of a parted caller is not linked; each holder has the last generation of its
+-- slot; the key of a running caller is linked; and at most one caller hides a key
 pub record Safe (w : BareWorld) : Type 0 where
   -- nobody is running on a key on which a caller is drained, parted or hidden
   pub none_running : (c : ℕ) (key : Key) (phase : Phase) → IsCaller w c key phase → IsTrue (saw_unused phase)

@@ -10,12 +10,12 @@ use Rattle.kf_core.specs.Marks.{fresh_marks, live_marks}
 use Rattle.kf_core.specs.Phases.{is_waiting, has_reference, may_release}
 use Rattle.kf_core.specs.Bare.{BareWorld, marks, is_linked, is_live, is_doomed, is_hidden, IsCaller}
 
--- the caller of this number is on the key, in this phase
+-- the world in which the caller of this number has this key and this phase
 abbrev pub with_phase : BareWorld → ℕ → Key → Phase → BareWorld
 with_phase w c key phase =
     record { slots = w.slots; callers = slice_set w.callers c (record { key = key; phase = phase }) }
 
--- the slot of the key has the key's generation, and these marks
+-- the world in which the key's slot has the key's generation and these marks
 abbrev pub with_marks : BareWorld → Key → Option NodeFlags → BareWorld
 with_marks w key m = record {
   slots = slice_set w.slots key.slot
@@ -37,14 +37,14 @@ OnlySpent w slot =
 abbrev pub NoReference : BareWorld → Key → Type 0
 NoReference w key = (c : ℕ) (phase : Phase) → IsCaller w c key phase → IsFalse (has_reference phase)
 
--- the slot has no linked node and only spent callers, and the key is its next
+-- the slot has no linked node and only spent callers, and the key has its next generation
 pub record MayBeBorn (w : BareWorld) (key : Key) : Type 0 where
   pub last : ℕ
   pub unlinked : slice_get w.slots key.slot ≡ Some (record { generation = last; marks = None })
   pub next : key.generation ≡ last + 1
   pub unheld : OnlySpent w key.slot
 
--- a caller that holds the key
+-- a caller holds the key
 pub record IsHeld (w : BareWorld) (key : Key) : Type 0 where
   pub caller : ℕ
   pub phase : Phase

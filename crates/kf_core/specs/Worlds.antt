@@ -43,7 +43,7 @@ bare_slot s = record { generation = s.last; marks = option_map (λ (r : Record).
 abbrev pub bare : World → BareWorld
 bare w = record { slots = map bare_slot w.slots; callers = w.callers }
 
--- only the root, in slot 0, live, and no callers
+-- the world that has only the root, live in slot 0, and no callers
 abbrev pub opening : ℕ → ℕ → World
 opening count start = record {
   slots = slice_set (replicate count (record { last = start; linked = None })) 0
@@ -58,7 +58,7 @@ opening count start = record {
 abbrev pub NoChild : Tree → Key → Type 0
 NoChild t key = (slot : ℕ) (r : Record) → slice_get t slot ≡ Some (Some r) → r.parent ≢ Some key
 
--- a rename to another place, which is not refused
+-- the rename of the key is not refused, and changes its directory, its name, or both
 pub record MayMove (t : Tree) (key dir : Key) (name : List ℕ) : Type 0 where
   pub moving : Record
   pub found : record_at t key ≡ Some moving

@@ -1,11 +1,11 @@
-//! Words of 64 bits as sets of places, for searches by the lowest place.
+//! 64-bit words as sets of bit places, for searches that start at the lowest place.
 
 ghost use Rattle.std.specs.Prelude.{ℕ, ◌≡◌, ◌≢◌, ◌<◌, ◌+◌, ◌⊎◌};
 ghost use Rattle.std.specs.Int.{bit_at};
 
-/// The place of the lowest bit that is set, 0 to 63.
+/// The place of the lowest set bit, 0 to 63.
 ///
-/// Condition: some bit is set.
+/// Condition: at least one bit is set.
 #[inline(always)]
 pub fn lowest_bit(word: u64) -> u32
     requires some { word ≢ 0 }
@@ -30,7 +30,7 @@ pub fn without_bit(word: u64, place: u32) -> u64
     word & !(1 << place)
 }
 
-/// The word with its lowest bits set, `count` of them.
+/// The word with its lowest `count` bits set. The other bits stay as they are.
 ///
 /// Condition: `count` is at most 63.
 #[inline(always)]
@@ -43,7 +43,7 @@ pub fn with_low_bits(word: u64, count: u32) -> u64
     word | ((1 << count) - 1)
 }
 
-/// The word whose bits are set exactly at the places at which this word's are not.
+/// The word with every bit flipped.
 #[inline(always)]
 pub fn other_bits(word: u64) -> u64
     ensures flipped { (bit : ℕ) → bit < 64 → bit_at result bit + bit_at word bit ≡ 1 }

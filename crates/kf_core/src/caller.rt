@@ -5,12 +5,12 @@ ghost use Rattle.kf_core.specs.Phases.{is_waiting, has_reference, is_hiding, is_
 
 use crate::key::Key;
 
-/// How far a caller is between its pin and its release.
+/// How far a caller has come between its pin and its release.
 #[derive(Clone, Copy, Debug, PartialEq, Eq)]
 pub enum Phase {
-    /// Holds the slot, with no reference.
+    /// Holds the slot, without a reference.
     Still,
-    /// As `Still`, and its last try found that the node is not live.
+    /// Like `Still`, but the caller's last try found that the node is not live.
     Turned,
     /// Has an active reference (`kernfs_get_active` succeeded).
     Running,
@@ -20,7 +20,7 @@ pub enum Phase {
     Restored,
     /// Saw that the node is doomed and that nobody has a reference (`kernfs_drain` returned).
     Drained,
-    /// As `Drained`, and saw that the node is not linked.
+    /// Like `Drained`, and the caller has also seen that the node is not linked.
     Parted,
     /// Hides its node, and waits until nobody has a reference to it.
     Hiding,
@@ -31,28 +31,30 @@ pub enum Phase {
 }
 
 impl Phase {
-    /// Whether a caller may try for a reference, and look for the drain (`Still` or `Turned`).
+    /// Whether a caller in this phase may try for a reference, and may look for the drain (`Still` or
+    /// `Turned`).
     pub fn is_waiting(self) -> bool
         ensures known { result ≡ is_waiting self }
     {
         matches!(self, Phase::Still | Phase::Turned)
     }
 
-    /// Whether a caller has a reference, which a drain waits for (`Running` or `Restored`).
+    /// Whether a caller in this phase has a reference, so that a drain waits for it (`Running` or
+    /// `Restored`).
     pub fn has_reference(self) -> bool
         ensures known { result ≡ has_reference self }
     {
         matches!(self, Phase::Running | Phase::Restored)
     }
 
-    /// Whether a caller hides its node (`Hiding` or `Hidden`).
+    /// Whether a caller in this phase hides its node (`Hiding` or `Hidden`).
     pub fn is_hiding(self) -> bool
         ensures known { result ≡ is_hiding self }
     {
         matches!(self, Phase::Hiding | Phase::Hidden)
     }
 
-    /// Whether a caller has released its hold.
+    /// Whether a caller in this phase has released its hold (`Spent`).
     pub fn is_spent(self) -> bool
         ensures known { result ≡ is_spent self }
     {

@@ -3,7 +3,7 @@
 use crate::key::{Key, Node};
 use crate::name_bytes::NameBytes;
 
-/// A change of the tree that was accepted. Applying a stored command never fails.
+/// An accepted change of the tree. Applying a stored command never fails.
 #[derive(Drop)]
 pub enum Command {
     /// A new record. If `live`, it is activated at once.

@@ -3,10 +3,11 @@
 use crate::key::{Key, Node};
 use crate::name_bytes::NameBytes;
 
-/// One atomic step: of a caller, which is given by its number, or of the owner of the tree lock.
+/// One atomic step of the model. It is made by a caller, which is given by its number, or by the thread that
+/// has the tree's lock.
 #[derive(Drop)]
 pub enum Event {
-    /// A node is linked, not activated and not doomed.
+    /// A new node is linked. It is neither activated nor doomed.
     Born {
         key: Key,
         parent: Key,
@@ -21,7 +22,7 @@ pub enum Event {
     Mark {
         key: Key,
     },
-    /// A node gets another directory and name.
+    /// A node moves to this directory, under this name.
     Move {
         key: Key,
         dir: Key,
@@ -48,7 +49,7 @@ pub enum Event {
     Restore {
         caller: usize,
     },
-    /// The caller sees that its node is doomed and that nobody has a reference.
+    /// The caller sees that its node is doomed and that nobody has a reference to it.
     Look {
         caller: usize,
     },
@@ -76,7 +77,7 @@ pub enum Event {
     Release {
         caller: usize,
     },
-    /// The second step of a refused try.
+    /// The second step of a refused try, which undoes the first.
     Undo {
         caller: usize,
     },

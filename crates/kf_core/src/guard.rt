@@ -9,7 +9,7 @@ use crate::key::Key;
 
 /// A hold with an active reference, or one that released it inside its callback.
 pub trait ActiveCall {
-    /// What identifies a caller: a number in a list, or a table and a seat of it.
+    /// What identifies a caller: its number in a list, or a table and a seat in that table.
     ghost CallerId: { Type 0 };
 
     /// The caller, the key and the phase of a call.
@@ -25,7 +25,8 @@ pub trait ActiveCall {
 }
 
 /// Gives active references and takes them back (`kernfs_get_active` and `kernfs_put_active`). Each guard has
-/// its own types of holds and calls. Its ghost members say what a try, and the end of a call, change.
+/// its own types of holds and calls. Its ghost members say what a try changes, and what the end of a call
+/// changes.
 pub trait Guard {
     /// A hold: it keeps the slot of its node, and has no reference.
     type Hold;
@@ -45,13 +46,13 @@ pub trait Guard {
     /// This call may end in this state of the guard.
     ghost may_leave: { Self → Self.Call → Type 0 };
 
-    /// The call ended, and this hold is left of it.
+    /// The call ended, and returned this hold.
     ghost leaves: { Self → Self.Call → Self.Hold → Self → Type 0 };
 
     /// Tries for an active reference. If the node is not live, it returns the hold as the error.
     ///
-    /// Condition: the hold may try in this state of the guard, as `may_enter` says. Each hold that the guard
-    /// returned may.
+    /// Condition: the hold may try in this state of the guard, as `may_enter` says. When the guard returns a
+    /// hold, that hold may try.
     fn enter(&mut self, hold: Self::Hold) -> Result<Self::Call, Self::Hold>
         requires may_enter { may_enter self.old hold }
         ensures tried { MatchResult result (λ call. enters self.old hold call self.new)
@@ -66,8 +67,8 @@ pub trait Guard {
 
     /// Ends the call, and releases its reference.
     ///
-    /// Condition: the call may end, as `may_leave` says: `enter` returned it, and a callback that had it gave
-    /// it back.
+    /// Condition: the call may end, as `may_leave` says. A call that `enter` returned may end, whatever a
+    /// callback did with it, if it has a reference.
     fn leave(&mut self, call: Self::Call) -> Self::Hold
         requires may_leave { may_leave self.old call }
         ensures left { leaves self.old call result self.new }

@@ -1,4 +1,4 @@
-//! What holds in every run: over every list of events, from every opening world.
+//! What holds in every run: for every list of events, from every opening world.
 
 ghost use Rattle.std.specs.Prelude.{◌≡◌, ◌≢◌, ◌<◌, ◌⊎◌, ◌↔◌, ℕ, List, [], ◌∷◌, Some, IsTrue, IsFalse};
 ghost use Rattle.kf_core.specs.Tree.{Tree, ancestor, in_subtree};
@@ -17,7 +17,7 @@ ghost use Rattle.kf_core.specs.Worlds.{World, bare, opening, tree, Step, Run};
 ghost use Rattle.kf_core.specs.Life.{whole_life, at, file_at, second, a, by};
 ghost use Rattle.kf_core.specs.Marks.{fresh_marks};
 
-/// Once a node is marked, each try for a reference to it is refused. Once a caller saw the node's drain,
+/// Once a node is marked, each try for a reference to it is refused. Once a caller has seen the node's drain,
 /// nobody is ever running on it again. While a caller is Hidden on a node, nobody is running on it. A caller
 /// that released its reference inside its callback may take one again there, but starts no callback under it.
 pub fn no_call_after_removal()
@@ -60,7 +60,7 @@ pub fn slots_kept()
         Run (opening count start) events w →
         (c : ℕ) (key : Key) (phase : Phase) → IsCaller (bare w) c key phase → phase ≢ Spent →
         IsLast (bare w) key.slot key.generation }
-    // A birth finds only spent callers on its slot.
+    // When a node is born in a slot, only spent callers are on that slot.
     ensures unheld { (count start : ℕ) (events : List Event) (w w' : World) (key parent : Key) (name : List ℕ)
         (node : Node) →
         Run (opening count start) events w → Step w (Born key parent name node) w' →
@@ -84,17 +84,17 @@ pub fn slots_kept()
         Run (opening count start) events w → AgreesHidden (tree w) (bare w) }
 {}
 
-/// The laws of removal for worlds without parents, names and nodes, from any safe world on.
+/// The laws of removal for bare worlds (without parents, names and nodes), in runs from any safe world.
 pub fn no_call_after_drain()
     // Each world of the run is safe.
     ensures safe { (events : List Event) (w w' : BareWorld) → Safe w → BareRun w events w' → Safe w' }
     // A linked key that is doomed is never live again, so each try for a reference to it is refused.
     ensures marked { (later : List Event) (v w : BareWorld) (key : Key) →
         IsTrue (is_linked v key) → IsTrue (is_doomed v key) → BareRun v later w → IsFalse (is_live w key) }
-    // If a caller is drained or parted on a key, nobody is running on it, then and ever after.
+    // If a caller is drained or parted on a key, nobody is running on that key from that moment on.
     ensures for_good { (later : List Event) (v w : BareWorld) (c : ℕ) (key : Key) (phase : Phase) →
         Safe v → IsCaller v c key phase → IsTrue (saw_drain phase) → BareRun v later w → NoneRunning w key }
-    // Once a slot has a later generation, only spent callers are on its earlier keys, ever after.
+    // Once a slot has a later generation, only spent callers are on its earlier keys from then on.
     ensures passed { (later : List Event) (v w : BareWorld) (key : Key) (generation : ℕ) →
         Safe v → IsLast v key.slot generation → key.generation < generation → BareRun v later w →
         NoneHolding w key }
@@ -103,12 +103,12 @@ pub fn no_call_after_drain()
         IsCaller w' c key Running → IsCaller w c key Running ⊎ ((event ≡ Enter c) × IsTrue (is_live w key)) }
 {}
 
-/// A run with every kind of event: the whole life of a node, by two callers. It shows that runs as the laws
-/// describe them exist.
+/// A run with every kind of event: the whole life of a node, with two callers. It shows that the laws speak
+/// of runs that exist.
 ///
 /// 1. A file is born in the root, activated and renamed, and both callers pin it. The first enters.
-/// 2. The second hides the file. When the first has left, the second sees that nobody uses it. A try of the
-///    first is now refused, and undone. The second shows the file again, and the first enters.
+/// 2. The second hides the file. When the first has left, the second sees that nobody uses the file. A try of
+///    the first is now refused, and undone. The second shows the file again, and the first enters.
 /// 3. The file is doomed. A try of the second is refused, and undone. The first breaks its protection, and
 ///    the second sees the drain. The first restores its protection: it has a reference again, but is not
 ///    Running.
@@ -119,8 +119,8 @@ pub fn a_life()
         (at 2 (Some (file_at second a fresh_marks)) (by Spent ∷ by Spent ∷ [])) }
 {}
 
-/// A key is in a subtree if and only if some number of steps up, from directory to directory, leads from it
-/// to the top of the subtree.
+/// A key is in a subtree if and only if some number of steps up, each from a node to its directory, leads
+/// from the key to the subtree's top.
 pub fn subtrees_are_by_steps()
     ensures by_steps { (t : Tree) (top key : Key) → IsTrue (in_subtree t top key)
         ↔ ((n : ℕ) × (ancestor t n key ≡ Some top)) }

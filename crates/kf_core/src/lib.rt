@@ -1,16 +1,18 @@
 //! What every layer of the attribute tree has in common: keys, nodes, records, commands, refusals, limits,
 //! the callers of a node and their phases, the atomic steps, and the laws that hold in every run.
 //!
-//! - `Key` names a node for good (a slot and its generation). `Node` is what it is: a directory, a file with
-//!   mode and tag, or a link. `Record` is a node in a tree, `Command` a change as a tree stores it.
-//! - `Refusal` is why a call did nothing, with the name and number of Linux. `Limits::new` takes the number
-//!   of slots of a tree and of holds of a slot. Most programs need only these two.
-//! - `Guard` gives a caller a reference (`enter`) and takes it back (`leave`). `kf_world` has the guard for a
-//!   single caller, `kf_words` the one for threads.
-//! - The laws (`no_call_after_removal`, `no_call_after_drain`, `slots_kept`) hold in every run: a list of
-//!   events, each of which may happen after the events before it.
-//! - `SlotList` and `SlotMap` keep an item for each slot. `lowest_bit` and the functions beside it search
-//!   words of 64 bits.
+//! - A `Key` names a node for all time (a slot and a generation). A `Node` says what a node is: a directory,
+//!   a file with a mode and a tag, or a link. A `Record` is a node in a tree. A `Command` is a change, as a
+//!   tree stores it.
+//! - A `Refusal` says why a call did nothing, and has Linux's error number for it. `Limits::new` takes the
+//!   number of slots of a tree, and the number of holds that each slot may have. Most programs need only
+//!   these two types.
+//! - A `Guard` gives a caller a reference (`enter`) and takes it back (`leave`). `kf_world` has the guard for
+//!   a single caller, and `kf_words` the one for threads.
+//! - The laws (`no_call_after_removal`, `no_call_after_drain`, `slots_kept`) hold in every run. A run is a
+//!   list of events, each of which is allowed after the events before it.
+//! - `SlotList` and `SlotMap` keep an item for each slot. `lowest_bit`, `without_bit`, `with_low_bits` and
+//!   `other_bits` treat 64-bit words as sets of bits, for searches.
 #![tactic(auto)]
 
 mod bits;

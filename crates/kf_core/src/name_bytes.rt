@@ -6,11 +6,11 @@ use smallvec::SmallVec;
 use std::alloc::{AllocError, Global};
 use std::marker::Model;
 
-/// Names of up to this many bytes take no memory on the heap. Most names of attributes are shorter.
+/// Names of up to this many bytes use no heap memory. Most names of attributes are shorter.
 const INLINE: usize = 24;
 
-/// The bytes of a name. Contracts see the list of the bytes. Any bytes are possible: calls that need a lawful
-/// name check it. Up to 24 bytes lie in the value itself, longer names on the heap.
+/// The bytes of a name. Contracts see the list of the bytes. Any bytes are possible; calls that need a lawful
+/// name check for it. A name of up to 24 bytes is stored in the value itself, a longer one on the heap.
 #[derive(Debug, Drop)]
 pub struct NameBytes {
     bytes: SmallVec<u8, INLINE>,
@@ -23,7 +23,7 @@ impl Model for NameBytes {
 }
 
 impl NameBytes {
-    /// No bytes: the root's name. Takes no memory on the heap.
+    /// The empty name, which is the root's. It allocates nothing.
     pub fn empty(alloc: Global) -> NameBytes
         ensures empty { result ≡ [] }
     {
@@ -32,8 +32,8 @@ impl NameBytes {
         }
     }
 
-    /// A copy of these bytes. Up to 24 bytes always succeed. For more bytes it takes memory, and fails with
-    /// `AllocError` if there is none.
+    /// A copy of these bytes. With up to 24 bytes it always succeeds. With more it allocates, and fails with
+    /// `AllocError` if there is no memory.
     pub fn copied(alloc: Global, bytes: &[u8]) -> Result<NameBytes, AllocError>
         ensures same { IfOk result (λ name. name ≡ bytes.now) }
         ensures short { length bytes.now ≤ 24 → IsOk result }

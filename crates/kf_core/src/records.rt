@@ -1,11 +1,11 @@
-//! What the tree keeps of one node.
+//! What a tree records about one node.
 
 use crate::key::{Key, Node};
 use crate::name_bytes::NameBytes;
 use crate::slot::NodeFlags;
 
 /// A linked node: its key and directory, its marks, whether it is hidden, what it is, and its name. The name
-/// is the last field, so that what a walk looks at lies together.
+/// is the last field, so that the fields that a walk reads are next to each other.
 #[derive(Drop)]
 pub struct Record {
     pub key: Key,

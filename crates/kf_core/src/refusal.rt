@@ -7,14 +7,14 @@ ghost use Rattle.kf_core.specs.Refusals.{name_of, number_of};
 use std::alloc::{AllocError, AllocFailed};
 use thiserror::Error;
 
-/// Why a call is refused. Names and numbers are those of Linux.
+/// Why a call is refused. The numbers are Linux's error numbers.
 #[derive(Clone, Copy, Debug, PartialEq, Eq, Error)]
 pub enum Refusal {
     /// There is no such node, or it is not live (`ENOENT`).
     #[error("NoEntry")]
     NoEntry,
-    /// A request for memory was refused (`ENOMEM`). If a call takes memory before it has looked for every
-    /// other cause, this may come in place of one of them.
+    /// A request for memory was refused (`ENOMEM`). If a call allocates before it has checked for every other
+    /// cause, it may return this instead of one of them.
     #[error("NoMemory")]
     NoMemory,
     /// The file's mode, or the way in which it was opened, does not allow the call (`EACCES`).
@@ -29,7 +29,7 @@ pub enum Refusal {
     /// The node is no longer live, or there is no such device (`ENODEV`).
     #[error("NoDevice")]
     NoDevice,
-    /// The node is no directory (`ENOTDIR`).
+    /// The node is not a directory (`ENOTDIR`).
     #[error("NotDir")]
     NotDir,
     /// The node is a directory (`EISDIR`).
@@ -38,7 +38,7 @@ pub enum Refusal {
     /// The request makes no sense (`EINVAL`).
     #[error("Invalid")]
     Invalid,
-    /// The slot has as many holds as the limit allows (`EMFILE`).
+    /// The slot has no room for another hold (`EMFILE`).
     #[error("TooManyHolds")]
     TooManyHolds,
     /// No slot is free (`ENOSPC`).
@@ -91,7 +91,7 @@ impl Refusal {
     }
 }
 
-/// A refused request for memory.
+/// A refused request for memory becomes `NoMemory`.
 impl From<AllocError> for Refusal {
     ghost from_gives = { λ _ refusal. refusal ≡ NoMemory };
 
@@ -100,7 +100,7 @@ impl From<AllocError> for Refusal {
     }
 }
 
-/// A refused request for memory that returns the value. The value is dropped.
+/// A refused request for memory that returns a value becomes `NoMemory`, and the value is dropped.
 impl<T: Drop> From<AllocFailed<T>> for Refusal {
     ghost from_gives = { λ _ refusal. refusal ≡ NoMemory };
 

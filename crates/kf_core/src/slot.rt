@@ -3,9 +3,9 @@
 /// The marks of a linked node. A node is live if it is linked, activated, not doomed and not hidden.
 #[derive(Clone, Copy, Debug, PartialEq, Eq)]
 pub struct NodeFlags {
-    /// It was activated, when it was made or later (`KERNFS_ACTIVATED`).
+    /// The node was activated, at its creation or later (`KERNFS_ACTIVATED`).
     pub activated: bool,
-    /// A removal has begun. This is never taken back (`KERNFS_REMOVING`).
+    /// A removal of the node has begun. This mark is never cleared (`KERNFS_REMOVING`).
     pub doomed: bool,
 }
 

@@ -1,4 +1,4 @@
-//! An item for each slot, in memory that is written only as far as slots were ever reached.
+//! A list with an item for each slot, whose memory is written only up to the highest slot that was set.
 
 ghost use Rattle.std.specs.Prelude.{◌≡◌, ◌≤◌, ◌<◌, ◌-◌, ◌++◌, ◌+◌, IfOk, IfErr, length, replicate, slice_get, slice_index_or, slice_set, vec_capacity};
 ghost use Rattle.kf_core.specs.declared.refusal.Refusal.TheVariants.{NoMemory};
@@ -7,15 +7,15 @@ use crate::refusal::Refusal;
 use std::alloc::Global;
 use std::marker::Model;
 
-/// A list with one item for each slot. Memory for all of them is reserved when the list is made, so no later
-/// change needs memory. Only the front, up to the highest slot that was set, is written, so the system
+/// A list with one item for each slot. Memory for all of them is reserved when the list is made, so later
+/// changes allocate nothing. Memory is written only up to the highest slot that was set, so the system
 /// provides pages only for that part.
 #[derive(Drop)]
 pub struct SlotList<T: Copy> {
     items: Vec<T>,
     /// The number of slots.
     slots: usize,
-    /// The item of each slot that was not reached.
+    /// The item of each slot that is not yet written.
     rest: T,
 }
 
@@ -30,7 +30,7 @@ impl<T: Copy> Model for SlotList<T> {
         (length list.items.items ≤ list.slots) × (list.slots ≤ vec_capacity list.items) };
 }
 
-/// Writes the items up to this slot. Each has room.
+/// Writes the items up to this slot. There is room for all of them.
 #[inline(always)]
 fn reach<T: Copy>(items: &mut Vec<T>, slots: usize, rest: T, slot: usize)
     requires within { slot < slots }
@@ -48,7 +48,7 @@ fn reach<T: Copy>(items: &mut Vec<T>, slots: usize, rest: T, slot: usize)
 }
 
 impl<T: Copy> SlotList<T> {
-    /// The same item for each slot, of which there are this many. Fails with `NoMemory` if there is no memory
+    /// A list of this many slots, with the same item for each. Fails with `NoMemory` if there is no memory
     /// for all of them.
     pub fn new(alloc: Global, slots: usize, item: T) -> Result<SlotList<T>, Refusal>
         ensures made { IfOk result (λ list. list ≡ replicate slots item) }
@@ -88,7 +88,7 @@ impl<T: Copy> SlotList<T> {
 
     /// The item of a slot.
     ///
-    /// Condition: the slot is not past the last.
+    /// Condition: the slot is not past the last one.
     #[inline(always)]
     pub fn at(&self, slot: usize) -> T
         requires within { slot < length self.now }
@@ -101,9 +101,9 @@ impl<T: Copy> SlotList<T> {
         }
     }
 
-    /// Puts an item in place of the slot's item.
+    /// Replaces the item of a slot.
     ///
-    /// Condition: the slot is not past the last.
+    /// Condition: the slot is not past the last one.
     #[inline(always)]
     pub fn set(&mut self, slot: usize, item: T)
         requires within { slot < length self.old }

@@ -1,4 +1,4 @@
-//! By slot, a value or none, in memory that is written only as far as slots were ever reached.
+//! A map from slots to values, whose memory is written only up to the highest slot that ever had a value.
 
 ghost use Rattle.std.specs.Prelude.{◌≡◌, ◌≤◌, ◌<◌, ◌-◌, ◌++◌, None, Some, IfOk, IfErr, length, replicate, slice_get, slice_set, vec_capacity};
 ghost use Rattle.std.specs.Option.{option_and_then, option_copied};
@@ -8,9 +8,9 @@ use crate::refusal::Refusal;
 use std::alloc::Global;
 use std::marker::Model;
 
-/// For each slot a value or none. Memory for all of them is reserved when the map is made, so no later change
-/// needs memory. Only the front, up to the highest slot that had a value, is written, so the system provides
-/// pages only for that part.
+/// A map with a value or none for each slot. Memory for all of them is reserved when the map is made, so
+/// later changes allocate nothing. Memory is written only up to the highest slot that ever had a value, so
+/// the system provides pages only for that part.
 #[derive(Drop)]
 pub struct SlotMap<X: Drop> {
     items: Vec<Option<X>>,
@@ -29,7 +29,7 @@ impl<X: Drop> Model for SlotMap<X> {
         (length map.items.items ≤ map.slots) × (map.slots ≤ vec_capacity map.items) };
 }
 
-/// Writes the items up to this slot. Each has room.
+/// Writes the items up to this slot. There is room for all of them.
 #[tactic(auto, using(crate::proofs::SlotLists::one_written))]
 fn reach<X>(items: &mut Vec<Option<X>>, slots: usize, slot: usize)
     requires within { slot < slots }
@@ -47,7 +47,7 @@ fn reach<X>(items: &mut Vec<Option<X>>, slots: usize, slot: usize)
 }
 
 impl<X: Drop> SlotMap<X> {
-    /// This many slots without a value. Fails with `NoMemory` if there is no memory for all of them.
+    /// A map of this many slots without values. Fails with `NoMemory` if there is no memory for all of them.
     pub fn new(alloc: Global, slots: usize) -> Result<SlotMap<X>, Refusal>
         ensures made { IfOk result (λ map. map ≡ replicate slots None) }
         ensures refused { IfErr result (λ refusal. refusal ≡ NoMemory) }
@@ -66,7 +66,7 @@ impl<X: Drop> SlotMap<X> {
         self.slots
     }
 
-    /// The value of a slot. Returns None also past the last slot.
+    /// The value of a slot. Returns None if the slot has no value, or is past the last one.
     #[inline(always)]
     pub fn get(&self, slot: usize) -> Option<&X>
         ensures known { option_copied result ≡ option_and_then (λ item. item) (slice_get self.now slot) }
@@ -77,9 +77,9 @@ impl<X: Drop> SlotMap<X> {
         }
     }
 
-    /// Puts a value in place of what the slot has. The old value is dropped.
+    /// Puts a value into a slot. If the slot had a value, the old one is dropped.
     ///
-    /// Condition: the slot is not past the last.
+    /// Condition: the slot is not past the last one.
     pub fn put(&mut self, slot: usize, item: X)
         requires within { slot < length self.old }
         ensures put { self.new ≡ slice_set self.old slot (Some item) }
@@ -88,7 +88,7 @@ impl<X: Drop> SlotMap<X> {
         self.items[slot] = Some(item);
     }
 
-    /// Takes the value of a slot out, and leaves none. Returns None also past the last slot.
+    /// Takes the value out of a slot. Returns None if the slot has no value, or is past the last one.
     pub fn take(&mut self, slot: usize) -> Option<X>
         ensures taken { result ≡ option_and_then (λ item. item) (slice_get self.old slot) }
         ensures none { self.new ≡ slice_set self.old slot None }

@@ -17,7 +17,7 @@ use Rattle.kf_table.specs.Children.{child, is_key, is_under}
 use Rattle.kf_tree.specs.TreeLogs.{TreeLog, IsKept}
 use Rattle.kf_device.specs.Removals.{entry_at}
 
--- where a list's first item that passes stands
+-- the first item of a list that passes is at some place of the list
 first_place : {X : Type 0} (p : X → Bool) (xs : List X) (y : X) → first p xs ≡ Some y → (i : ℕ) × (slice_get xs i ≡ Some y)
 first_place p [] y h = absurd (none-some y h)
 first_place p (x ∷ xs) y h = elim (p x) as (λ b. p x ≡ b → cond b (Some x) (first p xs) ≡ Some y → (i : ℕ) × (slice_get (x ∷ xs) i ≡ Some y)) [
@@ -25,7 +25,7 @@ first_place p (x ∷ xs) y h = elim (p x) as (λ b. p x ≡ b → cond b (Some x
   | false ↦ λ e g. (let r = first_place p xs y g in (suc r.0, r.1))
 ] refl h
 
--- it passes
+-- the first item of a list that passes does pass
 first_passes : {X : Type 0} (p : X → Bool) (xs : List X) (y : X) → first p xs ≡ Some y → p y ≡ true
 first_passes p [] y h = absurd (none-some y h)
 first_passes p (x ∷ xs) y h = elim (p x) as (λ b. p x ≡ b → cond b (Some x) (first p xs) ≡ Some y → p y ≡ true) [
@@ -71,7 +71,7 @@ found_linked t root dir key name l h =
     let i : record_at t e.0.key ≡ Some e.0 = in_found t e.0 (child_in t root dir name e.0 l e.1) in
     ap is_some (ap (record_at t) (sym e.2) ∙ i)
 
--- and in a directory that a walk led to
+-- what a name leads to in a directory that a walk led to is linked
 entry_linked : (t : Tree) (root key : Key) (at : Result Key Refusal) (name : List ℕ) → Lawful t root → and_then at (λ dir. found t dir name) ≡ Ok key → is_linked t key ≡ true
 entry_linked t root key (Ok dir) name l h = found_linked t root dir key name l h
 entry_linked t root key (Err refusal) name l h = absurd cc
@@ -92,7 +92,7 @@ entry_slot : (t : Tree) (root key : Key) (at : Result Key Refusal) (name : List 
 entry_slot t root key (Ok dir) name l h = found_slot t root dir key name l h
 entry_slot t root key (Err refusal) name l h = absurd cc
 
--- what the name leads to in the directory of a path has not the root's slot
+-- what the name leads to in the directory of a path does not have the root's slot
 pub there_slot : (s : TreeLog) (path name : List ℕ) (key : Key) → IsKept s → s.root.slot ≡ 0 → entry_at s path name ≡ Ok key → key.slot ≢ 0
 there_slot s path name key kept root h zero_slot = entry_slot s.tree s.root key (walked s.tree s.root path) name kept.lawful h (zero_slot ∙ sym root)
 

@@ -20,7 +20,7 @@ no_cause s key linked root other = elim (same_key key s.root) as (λ b. same_key
   | false ↦ λ e. ap (λ b. first_cause (unless b NoEntry ∷ unless (not false) Invalid ∷ [])) linked
 ] refl
 
--- so its removal is refused for lack of room or memory
+-- such a removal is refused only because a node has no room for another hold, or for lack of memory
 pub holds_refused : (s : TreeLog) (key : Key) (refusal : Refusal) → is_linked s.tree key ≡ true → s.root.slot ≡ 0 → key.slot ≢ 0 → KeyRefused s key refusal → HoldsRefusal refusal
 holds_refused s key refusal linked root other (inl h) = absurd (none-some refusal (sym (no_cause s key linked root other) ∙ h))
 holds_refused s key refusal linked root other (inr h) = h.1

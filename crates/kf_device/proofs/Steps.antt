@@ -16,7 +16,7 @@ use Rattle.kf_tree.specs.Causes.{Refuses, create_fault, doomed_in, has_entry, is
 use Rattle.kf_shared.specs.Locked.{Locked, CreateRefused}
 use Rattle.kf_device.specs.Stops.{StepRefusal}
 
--- a cause that there may be has what each such refusal has
+-- if there is a cause, this is true of it
 abbrev Gives : (Refusal → Type 0) → Option Refusal → Type 0
 Gives P cause = (refusal : Refusal) → cause ≡ Some refusal → P refusal
 
@@ -34,7 +34,7 @@ gives_more P (Some why) causes first later refusal h = first refusal h
 gives_end : (P : Refusal → Type 0) → Gives P (first_cause [])
 gives_end P refusal h = absurd (none-some refusal h)
 
--- nothing but its want is wrong with a target that is not the root
+-- any fault of a target that is not the root is one of the reasons of `StepRefusal`
 gives_target : (t : Tree) (root target : Key) → same_key target root ≡ false → Gives StepRefusal (target_fault t root (Some target))
 gives_target t root target other =
     gives_more StepRefusal (unless (is_linked t target) NoEntry) (unless (not (same_key target root)) Invalid ∷ [])
@@ -43,7 +43,8 @@ gives_target t root target other =
     (gives_none StepRefusal (unless (not (same_key target root)) Invalid) (ap (λ b. unless (not b) Invalid) other))
     (gives_end StepRefusal))
 
--- nothing but this is wrong with a node of a lawful name whose target is not the root
+-- if the name is lawful, and any fault of the target is a reason of `StepRefusal`, so is any fault of the
+-- node
 gives_create : (t : Tree) (root parent : Key) (name : List ℕ) (node : Node) → name_fault name ≡ None
     → Gives StepRefusal (target_fault t root (target_of node)) → Gives StepRefusal (create_fault t root parent name node)
 gives_create t root parent name node lawful target =
@@ -65,11 +66,11 @@ gives_create t root parent name node lawful target =
     gives_more StepRefusal linked (name_fault name ∷ directory ∷ marked ∷ targeted ∷ taken ∷ [])
     (gives_unless StepRefusal (is_linked t parent) NoEntry (inl refl)) p1
 
--- a step is refused for lack of memory
+-- lack of memory is one of the reasons of `StepRefusal`
 no_memory : (refusal : Refusal) → refusal ≡ NoMemory → StepRefusal refusal
 no_memory refusal h = inr (inr (inr (inr h)))
 
--- what was wrong with the node, or there was no slot, or no memory
+-- a creation is refused for what was wrong with the node, for lack of a slot, or for lack of memory
 refused_create : (s s' : Locked) (parent : Key) (name : List ℕ) (node : Node) (refusal : Refusal)
     → Gives StepRefusal (create_fault s.state.tree s.state.root parent name node)
     → CreateRefused s s' parent name node refusal → StepRefusal refusal
@@ -84,7 +85,7 @@ refused_create s s' parent name node refusal gives refused = elim refused [
   ]
 ]
 
--- a directory or a file of a lawful name is refused so
+-- a directory or a file with a lawful name is refused only for one of the reasons of `StepRefusal`
 pub made_refused : (s s' : Locked) (parent : Key) (name : List ℕ) (node : Node) (refusal : Refusal) → name_fault name ≡ None → target_of node ≡ None
     → CreateRefused s s' parent name node refusal → StepRefusal refusal
 made_refused s s' parent name node refusal lawful none =
@@ -99,7 +100,7 @@ not_root root key top other = elim (same_key key root) as (λ b. same_key key ro
   | false ↦ λ e. refl
 ] refl
 
--- a link of a lawful name to a node that is not the root is refused so
+-- a link with a lawful name to a node that is not the root is refused only for a reason of `StepRefusal`
 pub link_refused : (s s' : Locked) (parent target : Key) (name : List ℕ) (refusal : Refusal) → name_fault name ≡ None → s.state.root.slot ≡ 0 → target.slot ≢ 0
     → CreateRefused s s' parent name (Link target) refusal → StepRefusal refusal
 link_refused s s' parent target name refusal lawful root below =
@@ -107,7 +108,7 @@ link_refused s s' parent target name refusal lawful root below =
     (gives_create s.state.tree s.state.root parent name (Link target) lawful
     (gives_target s.state.tree s.state.root target (not_root s.state.root target root below)))
 
--- an activation is refused so
+-- an activation is refused only for one of the reasons of `StepRefusal`
 pub activate_refused : (t : Tree) (key : Key) (refusal : Refusal) → Refuses (linked_cause t key) refusal → StepRefusal refusal
 activate_refused t key refusal (inl c) = gives_unless StepRefusal (is_linked t key) NoEntry (inl refl) refusal c
 activate_refused t key refusal (inr m) = no_memory refusal m.1

@@ -10,31 +10,31 @@ use Rattle.kf_device.specs.Faults.{fault_of}
 use Rattle.kf_pages.specs.Files.{unknown_tag}
 use Rattle.kf_device.specs.Tags.{meaning}
 
--- a value is shown, or the bus keeps none; a serial is shown in decimal, or no such plug has begun;
--- `delete` has no text
+-- a value is shown, or the bus keeps none; the number of a plug is shown in decimal, or no such plug has
+-- begun; `delete` has no text
 abbrev pub ShowsFile : DeviceFile → ℕ → Result (List ℕ) Fault → Type 0
 ShowsFile Value serial answer = IfErr answer (λ fault. fault ≡ unknown_tag)
 ShowsFile Serial serial answer = (answer ≡ Ok (decimal serial)) ⊎ (answer ≡ Err unknown_tag)
 ShowsFile Delete serial answer = answer ≡ Err unknown_tag
 
--- what a show may give, by what the tag means: a tag without a meaning is unknown
+-- what a show may return, by what the tag means; a tag without a meaning is unknown
 abbrev pub ShowsMeant : Option DeviceTag → Result (List ℕ) Fault → Type 0
 ShowsMeant None answer = answer ≡ Err unknown_tag
 ShowsMeant (Some tag) answer = ShowsFile tag.file tag.serial answer
 
--- what a show may fill or return, by tag
+-- what a show may put on the page, or fail with, by the tag
 abbrev pub MayShow : ℕ → Result (List ℕ) Fault → Type 0
 MayShow tag answer = ShowsMeant (meaning tag) answer
 
--- all bytes were taken, or one of these faults was met
+-- all of the bytes were taken, or the store failed with one of these faults
 abbrev pub TakesAll : (Fault → Type 0) → List ℕ → Result ℕ Fault → Type 0
 TakesAll MayFail bytes answer = MatchResult answer (λ count. count ≡ length bytes) MayFail
 
--- why a store of a value fails: the bus keeps none, or there was no memory
+-- why a store to `value` fails: the bus keeps no such value, or there was no memory
 abbrev pub ValueFault : Fault → Type 0
 ValueFault fault = (fault ≡ unknown_tag) ⊎ (fault ≡ fault_of NoMemory)
 
--- why a store of `delete` fails: the fault has the number of the refusal that was met
+-- why a store to `delete` fails: the fault has the number of the refusal that was met
 abbrev pub DeleteFault : Fault → Type 0
 DeleteFault fault = (refusal : Refusal) × (fault ≡ fault_of refusal)
 
@@ -49,6 +49,6 @@ abbrev pub StoresMeant : Option DeviceTag → List ℕ → Result ℕ Fault → 
 StoresMeant None bytes answer = answer ≡ Err unknown_tag
 StoresMeant (Some tag) bytes answer = StoresFile tag.file bytes answer
 
--- what a store may return, by tag
+-- what a store may return, by the tag
 abbrev pub MayStore : ℕ → List ℕ → Result ℕ Fault → Type 0
 MayStore tag bytes answer = StoresMeant (meaning tag) bytes answer

@@ -1,4 +1,4 @@
--- What a plug makes in the tree of a guard, one step after the other.
+-- What a plug makes in the tree under the lock, one step after the other.
 use Rattle.std.specs.Prelude.{◌≡◌, ◌⊎◌, ℕ, false, true, List, Some, Ok, Err, codes}
 use Rattle.kf_core.specs.declared.command.Command.TheVariants.{Activate}
 use Rattle.kf_core.specs.declared.key.Key.{Key}
@@ -13,7 +13,7 @@ use Rattle.kf_device.specs.declared.devices.Nodes.{Nodes}
 use Rattle.kf_device.specs.declared.tags.DeviceFile.{DeviceFile}
 use Rattle.kf_device.specs.declared.tags.DeviceFile.TheVariants.{Value, Serial, Delete}
 
--- a base directory of this name: it was there, or it was made live
+-- the base with this name: a node with this name was there, or a directory was made live
 abbrev pub HasBase : Locked → Locked → Key → List ℕ → Key → Type 0
 HasBase s s' parent name key =
     ((found s.state.tree parent name ≡ Ok key) × (s' ≡ s))
@@ -28,14 +28,14 @@ pub record HasBases (s s' : Locked) (devices links : Key) : Type 0 where
   pub bus_there : HasBase after_devices after_bus s.state.root (codes "bus") bus
   pub links_there : HasBase after_bus s' bus (codes "devices") links
 
--- a file of the plug of this number was made, of this name and mode, and not activated yet
+-- a file of the plug with this number was made, with this name and mode, and is not activated yet
 abbrev pub HasFile : Locked → Locked → Key → List ℕ → ℕ → ℕ → DeviceFile → Key → Type 0
 HasFile s s' dir name mode serial file key = (tag : ℕ)
     × (meaning tag ≡ Some (record { serial = serial; file = file }))
     × Created s s' dir name (File mode tag) false key
 
--- the device's files, with 644, 444 and 200 in octal; then its directory is activated with all of them; then
--- its link is made live
+-- the device's files are made, with the modes 644, 444 and 200 in octal; then its directory is activated,
+-- with all of them; then its link is made live. `nodes` has the keys of the files `value` and `delete`
 pub record Filled (s s' : Locked) (links dir : Key) (name : List ℕ) (serial : ℕ) (nodes : Nodes)
     : Type 0 where
   pub after_value : Locked
@@ -55,7 +55,8 @@ pub record Filled (s s' : Locked) (links dir : Key) (name : List ℕ) (serial : 
   pub value_known : nodes.value ≡ Some value
   pub delete_known : nodes.delete ≡ Some delete
 
--- the base directories that were not there, then the device's directory, then what is in it, and its link
+-- the base directories that were not there are made, then the device's directory, then what is in it, and
+-- then its link. `nodes` has the key of the directory
 pub record Plugged (s s' : Locked) (name : List ℕ) (serial : ℕ) (nodes : Nodes) (dir : Key) : Type 0 where
   pub based : Locked
   pub made : Locked
@@ -66,6 +67,6 @@ pub record Plugged (s s' : Locked) (name : List ℕ) (serial : ℕ) (nodes : Nod
   pub filled : Filled made s' links dir name serial nodes
   pub dir_known : nodes.dir ≡ Some dir
 
--- the plug of some number was made so
+-- the plug of some number has made all of this
 abbrev pub IsPlugged : Locked → Locked → List ℕ → Key → Type 0
 IsPlugged s s' name dir = (serial : ℕ) × (nodes : Nodes) × Plugged s s' name serial nodes dir

@@ -19,19 +19,19 @@ file_at place =
 abbrev pub with_serial : ℕ → Option DeviceFile → Option DeviceTag
 with_serial serial file = option_map (λ f. record { serial = serial; file = f }) file
 
--- four tags for each plug, in the order of their numbers
+-- what a tag means: each plug has four tags, in the order of the plugs' numbers, and the fourth means nothing
 abbrev pub meaning : ℕ → Option DeviceTag
 meaning tag =
     if nat_lt tag first_tag then None
     else with_serial ((tag - first_tag) / 4) (file_at ((tag - first_tag) % 4))
 
--- the device's file whose store unplugs the device
+-- whether a store to this file of a device unplugs the device
 abbrev pub is_delete_file : DeviceFile → Bool
 is_delete_file Value = false
 is_delete_file Serial = false
 is_delete_file Delete = true
 
--- whether it is a device's `delete`
+-- whether the tag is that of a device's `delete`
 abbrev pub is_delete : Option DeviceTag → Bool
 is_delete None = false
 is_delete (Some tag) = is_delete_file tag.file

@@ -12,6 +12,6 @@ value_in device = option_map (λ (d : Device). d.value.items) device
 abbrev pub name_in : Option Device → Option (List ℕ)
 name_in device = option_map (λ (d : Device). d.name) device
 
--- the nodes that a device's plug made, once that is over
+-- the nodes that a device's plug made, once the plug is over
 abbrev pub nodes_in : Option Device → Option Nodes
 nodes_in device = option_and_then (λ (d : Device). d.nodes) device

@@ -19,10 +19,10 @@ use std::alloc::Global;
 use std::marker::PhantomData;
 use std::sync::{Mutex, Wait};
 
-/// A bus on the shared tree of this name, with its devices (`struct bus_type`), and the callbacks of their
-/// files. Any number of threads may share it.
+/// A bus with its devices, on the shared tree that `N` names (`struct bus_type`). It also has the callbacks
+/// of the devices' files. Any number of threads may share it.
 ///
-/// Its lock is a leaf: a thread that has it takes no other lock and waits for nobody until it is unlocked.
+/// Its lock is a leaf: a thread that has it takes no other lock and waits for nobody.
 #[derive(Drop)]
 pub struct Bus<N: Naming> {
     pub(crate) devices: Mutex<Devices>,
@@ -30,9 +30,9 @@ pub struct Bus<N: Naming> {
 }
 
 impl<N: Naming> Bus<N> {
-    /// A bus on which no plug has begun.
+    /// Makes a bus on which no plug has begun.
     ///
-    /// Refusal: NoMemory, and no other. Today it takes no memory, so it refuses nothing.
+    /// Refusal: NoMemory, and no other. Today it allocates nothing, so it never fails.
     pub fn new(alloc: Global) -> Result<Bus<N>, Refusal>
         ensures refused { IfErr result (λ refusal. refusal ≡ NoMemory) }
     {
@@ -42,8 +42,8 @@ impl<N: Naming> Bus<N> {
         })
     }
 
-    // Begins a plug, and keeps its texts. A value is never shown past its first 4,096 bytes, so only these
-    // are kept.
+    // Begins a plug, and keeps the texts of its device. No more than the first 4,096 bytes of a value are
+    // ever shown, so only these are kept.
     fn begin<R: Wait>(&self, rt: &R, name: &[u8], value: &[u8]) -> Result<u64, Refusal>
         requires lawful { name_fault name.now ≡ None }
         ensures few { IfOk result (λ serial. serial ≤ 2 ^ 60) }
@@ -56,19 +56,20 @@ impl<N: Naming> Bus<N> {
         Ok(serial)
     }
 
-    /// Plugs a device under this lock (`device_add`). It makes those of `/devices`, `/bus` and `/bus/devices`
-    /// that are not there, in this order, live. Then it makes `/devices/NAME` with its files `value` (0o644),
-    /// `serial` (0o444) and `delete` (0o200), which are all activated together; then the live link
-    /// `/bus/devices/NAME`. It returns the key of `/devices/NAME`. Under the same lock a driver may put its
-    /// own groups there.
+    /// Plugs a device under this lock (`device_add`). First it makes those of `/devices`, `/bus` and
+    /// `/bus/devices` that are not there, in this order. They are live at once. Then it makes `/devices/NAME`
+    /// with its files `value` (0o644), `serial` (0o444) and `delete` (0o200), and activates all of these
+    /// together. Last it makes the link `/bus/devices/NAME`, which is live at once. It returns the key of
+    /// `/devices/NAME`. Under the same lock a driver may add its own groups there.
     ///
-    /// Of the value the first 4,096 bytes are kept, and a read shows at most 4,095.
+    /// Only the first 4,096 bytes of the value are kept, and a read shows at most 4,095 of them.
     ///
-    /// Refusals: NameTooLong (over 255 bytes) or Invalid (name), then NoSpace where 2^60 plugs have begun:
-    /// they change nothing. Then, of each step in its order, NotDir (a base is a file or link), NoEntry (a
-    /// base is marked), Exists (the directory, or the link, is there), NoSpace, and NoMemory: the base
-    /// directories that were made stay, and the removal of the device's directory has begun, which
-    /// [`Bus::take_back`] finishes. Only if that was refused too does it stay, and `unplug` removes it.
+    /// Refusals: NameTooLong (over 255 bytes) or Invalid (name), then NoSpace if 2^60 plugs have begun. These
+    /// change nothing. Then, for each step in order, NotDir (a base is a file or a link), NoEntry (a base is
+    /// marked), Exists (the directory or the link is already there), NoSpace, and NoMemory. After one of
+    /// these the base directories that were made stay. If the device's directory was made, its removal has
+    /// begun, and [`Bus::take_back`] finishes it. Only if that removal was refused, too, does the directory
+    /// stay. Then `unplug` removes it.
     ///
     /// Context: takes the lock of the bus.
     pub fn plug_in<R: Wait>(
@@ -99,10 +100,10 @@ impl<N: Naming> Bus<N> {
 
     /// Finishes what a refused plug has begun, and returns why it was refused.
     ///
-    /// It may never return: it waits for the tree lock and the lock of the bus, which its caller must not
-    /// have, and, if the link was refused, for the callbacks that run on the new files.
+    /// It may never return. It waits for the tree's lock and the lock of the bus, and the caller must hold
+    /// neither. If the link was refused, it also waits for the callbacks that run on the new files.
     ///
-    /// Context: sleeps; takes the lock of the bus and the tree's, one at a time.
+    /// Context: sleeps; takes the lock of the bus and the tree's lock, one at a time.
     pub fn take_back<R: Wait>(
         &self,
         rt: &R,
@@ -123,14 +124,15 @@ impl<N: Naming> Bus<N> {
         refusal
     }
 
-    /// Plugs a device as [`Bus::plug_in`] does, in one turn of the tree lock, and takes it back if it is
-    /// refused.
+    /// Plugs a device as [`Bus::plug_in`] does, in one critical section of the tree, and takes it back if it
+    /// is refused.
     ///
     /// Refusals: those of [`Bus::plug_in`].
     ///
-    /// It may never return: as [`Bus::take_back`].
+    /// It may never return, like [`Bus::take_back`].
     ///
-    /// Context: sleeps; takes the tree's lock, and within it and without it that of the bus.
+    /// Context: sleeps; takes the tree's lock, and takes the lock of the bus both under the tree's lock and
+    /// without it.
     pub fn plug<R: Wait>(
         &self,
         rt: &R,
@@ -149,8 +151,9 @@ impl<N: Naming> Bus<N> {
         }
     }
 
-    /// How many devices the bus keeps texts of: those that are plugged, and those that were removed without
-    /// it since it last looked. Others plug and unplug from then on, so no clause gives the number.
+    /// The number of devices of which the bus keeps texts. These are the devices that are plugged or being
+    /// plugged, and those that were removed by other means since the bus last looked. Other threads may plug
+    /// and unplug at any time, so no clause says what the number is.
     ///
     /// It may never return: it waits for the lock of the bus.
     ///
@@ -159,12 +162,13 @@ impl<N: Naming> Bus<N> {
         self.devices.lock(rt).len()
     }
 
-    /// Begins to unplug a device under this lock (`device_del`): the removal of the link `/bus/devices/NAME`
-    /// and that of the directory `/devices/NAME`, each if it is there. Both are looked for, held and
-    /// marked. Each is looked for by its whole name, so a name that is not lawful finds nothing.
+    /// Begins to unplug a device under this lock (`device_del`). It begins the removal of the link
+    /// `/bus/devices/NAME` and that of the directory `/devices/NAME`, each if it is there. It looks both up,
+    /// takes holds of them, and marks them. Each is looked up by its whole name, so a name that is not lawful
+    /// finds nothing.
     ///
-    /// Refusals: TooManyHolds or NoMemory, as `Editor::begin_removal_of` of the link has them: then nothing
-    /// is marked. Those of the directory are in the result, beside the link's removal.
+    /// Refusals: TooManyHolds or NoMemory, as `Editor::begin_removal_of` returns them for the link. After one
+    /// of these nothing is marked. A refusal for the directory is in the result, beside the link's removal.
     pub fn unplug_in(
         &self,
         editor: &mut Editor<'_, N>,
@@ -179,15 +183,17 @@ impl<N: Naming> Bus<N> {
         begin_both(editor, name, None, plug)
     }
 
-    /// Finishes what an unplug has begun: waits for the link, and for the directory, and forgets its texts.
+    /// Finishes an unplug that has begun: waits for the link and for the directory, and forgets the device's
+    /// texts if its files have left the tree.
     ///
-    /// Refusals: why the directory's removal was refused: then only the link is removed, and `unplug` may be
-    /// called again; else NoEntry where neither was there.
+    /// Refusals: the one for which the directory's removal was refused (then only the link is removed, and
+    /// `unplug` may be called again); otherwise NoEntry if neither was there.
     ///
-    /// It may never return: it waits for the tree lock and the lock of the bus, which its caller must not
-    /// have, and for every callback that runs on the device's files, its caller's own among them.
+    /// It may never return. It waits for the tree's lock and the lock of the bus, and the caller must hold
+    /// neither. It also waits for every callback that runs on the device's files, even if that callback is
+    /// the caller of `finish`.
     ///
-    /// Context: sleeps; takes the lock of the bus and the tree's, one at a time.
+    /// Context: sleeps; takes the lock of the bus and the tree's lock, one at a time.
     pub fn finish<R: Wait>(
         &self,
         rt: &R,
@@ -204,15 +210,15 @@ impl<N: Naming> Bus<N> {
         if found { Ok(()) } else { Err(Refusal::NoEntry) }
     }
 
-    /// Unplugs a device: [`Bus::unplug_in`] in one turn of the tree lock, and [`Bus::finish`].
+    /// Unplugs a device: [`Bus::unplug_in`] in one critical section of the tree, and then [`Bus::finish`].
     ///
-    /// Refusals: NoEntry where neither its link nor its directory is there; else TooManyHolds or NoMemory, as
-    /// `Editor::begin_removal_of` of the link or the directory has them: after that of the directory the link
-    /// is removed. After one of these it may be called again.
+    /// Refusals: NoEntry if neither its link nor its directory is there; otherwise TooManyHolds or NoMemory,
+    /// as `Editor::begin_removal_of` returns them for the link or the directory. If the directory's removal
+    /// is refused, the link is removed nevertheless. After TooManyHolds or NoMemory it may be called again.
     ///
-    /// It may never return: as [`Bus::finish`].
+    /// It may never return, like [`Bus::finish`].
     ///
-    /// Context: sleeps; takes the lock of the bus and the tree's, one at a time.
+    /// Context: sleeps; takes the lock of the bus and the tree's lock, one at a time.
     pub fn unplug<R: Wait>(&self, rt: &R, tree: &SharedTree<N>, name: &[u8]) -> Result<(), Refusal>
         ensures refused { IfErr result (λ refusal. UnplugRefusal refusal) }
     {

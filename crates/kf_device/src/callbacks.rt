@@ -56,7 +56,7 @@ impl<N: Naming> Bus<N> {
         Ok(())
     }
 
-    // Puts other bytes in place of a device's value.
+    // Replaces a device's value by these bytes.
     fn store_value<R: Wait>(&self, rt: &R, serial: u64, bytes: &[u8]) -> Result<usize, Fault>
         ensures stored { TakesAll ValueFault bytes.now result }
     {
@@ -73,8 +73,8 @@ impl<N: Naming> WaitOps<N> for Bus<N> {
 
     ghost may_store = { λ _ tag bytes answer. MayStore tag bytes answer };
 
-    /// Shows a device's value, or the number of its plug in decimal. Fault 22 if the bus keeps no such
-    /// value any more, or no such plug has begun, and for any other tag.
+    /// Shows a device's value, or the number of its plug in decimal. It fails with Fault 22 if the bus no
+    /// longer keeps such a value or no such plug has begun, and for any other tag.
     fn show<R: Wait>(
         &self,
         rt: &R,
@@ -103,10 +103,10 @@ impl<N: Naming> WaitOps<N> for Bus<N> {
         }
     }
 
-    /// Puts the bytes in place of a device's value, or deletes the device. Of a value: Fault 22 if the bus
-    /// no longer keeps it, Fault 12 if there was no memory. Of `delete`: the fault has the number of the
-    /// refusal that was met; it may come once `delete` itself is removed, and then `unplug` removes the rest.
-    /// Any other tag is Fault 22.
+    /// Replaces a device's value by these bytes, or deletes the device. A store to `value` fails with Fault
+    /// 22 if the bus no longer keeps the value, and with Fault 12 if there is no memory. The fault of a store
+    /// to `delete` has the number of the refusal that was met. This store can fail after `delete` itself was
+    /// removed, and then `unplug` removes the rest. For any other tag a store fails with Fault 22.
     fn store<R: Wait>(
         &self,
         rt: &R,

@@ -1,4 +1,4 @@
-//! Which of those that remove a device's `delete` goes on to the rest of the device: only the first.
+//! Of the calls that remove a device's `delete`, only the first goes on to remove the rest of the device.
 ghost use Rattle.std.specs.Prelude.{◌≡◌, IfOk, OnOk, OnErr, is_some, not};
 ghost use Rattle.kf_core.specs.declared.caller.Phase.TheVariants.{Running, Restored};
 ghost use Rattle.kf_shared.specs.Locked.{is_claimed};
@@ -9,18 +9,18 @@ use kf_shared::{Editor, Naming, release_all};
 use kf_words::Call;
 use std::sync::Wait;
 
-/// What the first self-removal of a `delete` gives, and no other: leave to remove the rest of its device.
+/// Permission to remove the rest of a device. Only the first self-removal of its `delete` gets it.
 #[derive(Drop)]
 pub(crate) struct Claim {
     first: (),
 }
 
-/// Removes the node of a call from within its own callback, as `Editor::remove_self` does. A claim if no
-/// earlier self-removal has claimed the node.
+/// Removes the node of a call from within its own callback, as `Editor::remove_self` does. Returns a claim if
+/// no earlier self-removal has claimed the node.
 ///
 /// Conditions and refusals: those of `Editor::remove_self`.
 ///
-/// Context: sleeps, once it has unlocked, and locks again.
+/// Context: sleeps after it has unlocked the tree, and locks it again.
 pub(crate) fn remove_file<N: Naming, R: Wait>(
     editor: Editor<'_, N>,
     rt: &R,

@@ -1,4 +1,4 @@
-//! What a store of `delete` does.
+//! What a store to `delete` does.
 ghost use Rattle.std.specs.Prelude.{◌≡◌, true, IfErr, OnOk};
 ghost use Rattle.kf_core.specs.Phases.{has_reference};
 ghost use Rattle.kf_core.specs.declared.caller.Phase.TheVariants.{Running, Restored};
@@ -29,8 +29,8 @@ impl<N: Naming> Bus<N> {
         }
     }
 
-    // The key of the directory of the device on whose `delete` the call is. If its plug has not reported the
-    // bus yet, that is the directory in which the file stands.
+    // The key of the directory of the device whose `delete` the call is on. If the device's plug has not yet
+    // given its nodes to the bus, this is the directory in which the file is.
     fn dir_of<R: Wait>(
         &self,
         rt: &R,
@@ -45,12 +45,13 @@ impl<N: Naming> Bus<N> {
         }
     }
 
-    // Unplugs the device on whose `delete` the call is: its link and its directory, each if it still has
-    // its name, and no later device of that name. That it is unplugged already is no refusal. The claim is
-    // that of the first self-removal of that file.
+    // Unplugs the device whose `delete` the call is on: its link and its directory, each if it still has its
+    // name, and no later device of that name. It is not a refusal if the device is already unplugged. The
+    // claim is that of the first self-removal of that file.
     //
-    // Condition: the call is Restored, so it broke its protection and is waited for by no removal: a
-    // removal waits for every call that is Running, and would wait for this one without end.
+    // Condition: the call is Restored. So it has broken its protection, and no removal waits for it. (A
+    // removal waits for every call that is Running. If this call were Running, the removal would wait
+    // forever.)
     fn unplug_rest<R: Wait>(
         &self,
         rt: &R,
@@ -75,11 +76,11 @@ impl<N: Naming> Bus<N> {
         }
     }
 
-    /// Removes the `delete` that the call is on, from within its own callback, and then, for the first that
-    /// does so, the rest of the device (`device_remove_file_self`, then `device_unregister`). Its name and
-    /// its directory's key are copied first, so that no lock is held from then on.
+    /// Removes the `delete` that the call is on, from within its own callback. The first call that does so
+    /// also removes the rest of the device (`device_remove_file_self`, then `device_unregister`). The
+    /// device's name and its directory's key are copied first, so the bus is not locked during the removals.
     ///
-    /// Conditions: the call is Running, and of this tree's table. After Ok it is Restored.
+    /// Conditions: the call is Running, and is of this tree's table. After Ok it is Restored.
     pub(crate) fn delete<R: Wait>(
         &self,
         rt: &R,

@@ -10,10 +10,10 @@ use std::alloc::Global;
 use std::collections::BTreeMap;
 use std::ops::Bound;
 
-/// The most plugs that may begin.
+/// The greatest number of plugs that may begin.
 const MOST: u64 = 1 << 60;
 
-/// The nodes of a device, as far as its plug has made them: its directory, and the files that ask for its
+/// The nodes of a device that its plug has made: its directory, and the files whose callbacks ask for its
 /// texts.
 #[derive(Clone, Copy, Debug, PartialEq, Eq)]
 pub(crate) struct Nodes {
@@ -23,7 +23,7 @@ pub(crate) struct Nodes {
 }
 
 impl Nodes {
-    /// None was made yet.
+    /// None of the nodes was made yet.
     pub(crate) fn new() -> Nodes
         ensures none { result.dir ≡ None }
     {
@@ -34,8 +34,8 @@ impl Nodes {
         }
     }
 
-    /// Whether one of its files is in the tree, wherever it was moved. A file that has left it never comes
-    /// back.
+    /// Whether one of the device's files is in the tree, wherever it was moved. A file that has left the tree
+    /// never returns to it.
     pub(crate) fn have_files(&self, state: &State) -> bool {
         is_linked(state, self.value) || is_linked(state, self.delete)
     }
@@ -57,12 +57,12 @@ struct Device {
     nodes: Option<Nodes>,
 }
 
-/// The devices whose files may ask for their texts, and how many plugs have begun.
+/// The devices whose texts a callback may still ask for, and the number of plugs that have begun.
 #[derive(Drop)]
 pub(crate) struct Devices {
     alloc: Global,
     begun: u64,
-    // How many the last sweep left, less those that were forgotten since.
+    // How many devices the last sweep left, minus those that were forgotten since.
     kept: usize,
     devices: BTreeMap<u64, Device>,
     ghost few: { begun ≤ 1152921504606846976 },
@@ -73,7 +73,7 @@ impl Devices {
     ghost use Rattle.std.specs.BTreeMap.{get};
     ghost use Rattle.kf_device.specs.Texts.{value_in, name_in, nodes_in};
 
-    /// No plug has begun.
+    /// The list of a bus on which no plug has begun.
     pub(crate) fn new(alloc: Global) -> Devices
         ensures none { result.begun ≡ 0 }
     {
@@ -85,7 +85,8 @@ impl Devices {
         }
     }
 
-    /// Begins a plug, and returns its number: the first has 1. `NoSpace` after 2^60 of them.
+    /// Begins a plug, and returns its number. The first plug has the number 1. Fails with `NoSpace` after
+    /// 2^60 plugs.
     pub(crate) fn begin(&mut self) -> Result<u64, Refusal>
         ensures next { IfOk result (λ serial. (serial ≡ self.old.begun + 1) × (self.new.begun ≡ serial)) }
         ensures few { IfOk result (λ serial. serial ≤ 2 ^ 60) }
@@ -107,7 +108,7 @@ impl Devices {
         1 <= serial && serial <= self.begun
     }
 
-    /// Keeps the texts of a plug that is under way. `NoMemory` if that was refused.
+    /// Keeps the texts of a plug that is under way. Fails with `NoMemory` if there is no memory for them.
     pub(crate) fn add(&mut self, serial: u64, name: &[u8], value: &[u8]) -> Result<(), Refusal>
         requires lawful { name_fault name.now ≡ None }
         ensures refused { IfErr result (λ refusal. refusal ≡ NoMemory) }
@@ -124,7 +125,7 @@ impl Devices {
         Ok(())
     }
 
-    /// The plug is over, and has made these nodes.
+    /// Notes that the plug is over, and has made these nodes.
     pub(crate) fn settle(&mut self, serial: u64, nodes: Nodes)
         ensures settled { is_some (get nat_cmp self.old.devices serial) ≡ true →
             nodes_in (get nat_cmp self.new.devices serial) ≡ Some nodes }
@@ -176,7 +177,7 @@ impl Devices {
         self.devices.get(&serial)?.nodes
     }
 
-    /// Puts other bytes in place of a device's value. False if there is no such device.
+    /// Replaces a device's value by these bytes. Returns false if there is no such device.
     pub(crate) fn set_value(&mut self, serial: u64, bytes: &[u8]) -> Result<bool, Refusal>
         ensures stored { IfOk result (λ known. known ≡ true →
             value_in (get nat_cmp self.new.devices serial) ≡ Some bytes.now) }
@@ -196,18 +197,19 @@ impl Devices {
         }
     }
 
-    /// How many devices it keeps.
+    /// How many devices are kept.
     pub(crate) fn len(&self) -> usize {
         self.devices.len()
     }
 
-    /// How many devices are to be looked at, if there are more than twice as many as the last sweep left.
+    /// The number of devices that a sweep has to look at, if this is more than twice `kept`. Otherwise None:
+    /// no sweep is due.
     pub(crate) fn due(&self) -> Option<usize> {
         let count = self.devices.len();
         (count > self.kept.saturating_mul(2)).then_some(count)
     }
 
-    /// The next device above a number.
+    /// The number of the first device above this number, if there is one.
     pub(crate) fn above(&self, serial: u64) -> Option<u64> {
         let mut rest = self
             .devices
@@ -218,7 +220,7 @@ impl Devices {
         }
     }
 
-    /// A sweep is over.
+    /// Notes that a sweep is over.
     pub(crate) fn swept(&mut self)
         ensures counted { self.new.begun ≡ self.old.begun }
     {

@@ -6,7 +6,7 @@ ghost use Rattle.kf_pages.specs.Files.{unknown_tag};
 use kf_core::Refusal;
 use kf_files::Fault;
 
-/// The bus knows no such file, or keeps no text for it.
+/// The fault for a file that the bus does not know, or for which it keeps no text.
 pub(crate) fn unknown() -> Fault
     ensures value { result ≡ unknown_tag }
 {

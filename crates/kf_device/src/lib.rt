@@ -1,14 +1,14 @@
 //! Devices on a bus: directories of attributes that drivers plug and unplug, on a tree that threads share.
 //!
-//! - `Bus::new` has no device. `plug` makes a device's directory with its files `value`, `serial` and
-//!   `delete`, and the link to it; `unplug` removes both and waits. A store of `delete` unplugs from within
-//!   its own callback.
-//! - `plug_in` and `unplug_in` do it under a lent `Editor`. A refused plug leaves a `RefusedPlug`, and an
-//!   unplug begins an `Unplugging`. Neither can be forgotten: `take_back` and `finish` spend them while the
-//!   tree is unlocked.
-//! - `Bus` is itself the callbacks of its devices' files (`WaitOps`).
+//! - `Bus::new` makes a bus without devices. `plug` makes a device's directory, with its files `value`,
+//!   `serial` and `delete`, and a link to it. `unplug` removes both and waits. A store to `delete` unplugs
+//!   the device from within its own callback.
+//! - `plug_in` and `unplug_in` do the same under an `Editor` that the caller lends. If `plug_in` is refused,
+//!   it returns a `RefusedPlug`. `unplug_in` returns an `Unplugging`. Neither can be forgotten: once the tree
+//!   is unlocked, a `RefusedPlug` must be passed to `take_back`, and an `Unplugging` to `finish`.
+//! - `Bus` itself has the callbacks of its devices' files (it implements `WaitOps`).
 //!
-//! A caller shows nothing but that the tree is the one that the bus has in its type.
+//! A caller need prove only that the tree is the one that the bus names in its type.
 #![tactic(auto)]
 
 mod bus;

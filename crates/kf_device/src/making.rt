@@ -1,4 +1,4 @@
-//! What a plug makes in the tree, under one turn of its lock.
+//! What a plug makes in the tree, in one critical section.
 ghost use Rattle.std.specs.Prelude.{◌≡◌, ◌≢◌, ◌≤◌, ◌^◌, None, IfErr, IfOk, OnErr, OnOk};
 ghost use Rattle.kf_core.specs.Names.{name_fault};
 ghost use Rattle.kf_shared.specs.Locked.{Unchanged};
@@ -10,18 +10,18 @@ use crate::tags::{DeviceFile, tag_of};
 use kf_core::{Key, Node, Refusal};
 use kf_shared::{Editor, Naming, Removing};
 
-/// A plug that was refused. It must be spent, by [`crate::Bus::take_back`], with the tree unlocked.
+/// A plug that was refused. It must be passed to [`crate::Bus::take_back`] once the tree is unlocked.
 pub struct RefusedPlug<N: Naming> {
-    /// Why.
+    /// Why it was refused.
     pub refusal: Refusal,
-    /// The removal of the directory that it had made by then, if one could be begun.
+    /// The removal of the directory that it had made, if it had made one and the removal could be begun.
     pub begun: Option<Removing<N>>,
-    // its number, if it had begun
+    // the number of the plug, if it had begun
     pub(crate) plug: Option<u64>,
 }
 
 impl<N: Naming> RefusedPlug<N> {
-    /// Before the directory was made.
+    /// A plug that was refused before its directory was made.
     pub(crate) fn before(refusal: Refusal, plug: Option<u64>) -> RefusedPlug<N>
         ensures refusal { result.refusal ≡ refusal }
         ensures none { result.begun ≡ None }
@@ -34,7 +34,7 @@ impl<N: Naming> RefusedPlug<N> {
     }
 }
 
-// A directory of this name, made live where nothing has the name.
+// The node with this name, or else a new live directory with this name.
 fn base<N: Naming>(editor: &mut Editor<'_, N>, parent: Key, name: &[u8]) -> Result<Key, Refusal>
     requires lawful { name_fault name.now ≡ None }
     ensures there { IfOk result (λ key. HasBase editor.old editor.new parent name.now key) }
@@ -47,7 +47,7 @@ fn base<N: Naming>(editor: &mut Editor<'_, N>, parent: Key, name: &[u8]) -> Resu
     }
 }
 
-// `/devices` and `/bus/devices`, made if they are not there.
+// The keys of `/devices` and `/bus/devices`, which are made if they are not there.
 fn bases<N: Naming>(editor: &mut Editor<'_, N>) -> Result<(Key, Key), Refusal>
     ensures there { IfOk result (λ found. HasBases editor.old editor.new found.0 found.1) }
     ensures root { editor.old.state.root.slot ≡ 0 }
@@ -61,7 +61,7 @@ fn bases<N: Naming>(editor: &mut Editor<'_, N>) -> Result<(Key, Key), Refusal>
     Ok((devices, links))
 }
 
-// A file of the device that is not activated yet.
+// Makes a file of the device, which is not activated yet.
 fn file<N: Naming>(
     editor: &mut Editor<'_, N>,
     dir: Key,
@@ -80,7 +80,7 @@ fn file<N: Naming>(
     editor.create(dir, name, Node::File { mode, tag }, false)
 }
 
-// The device's files, its directory's activation and its link.
+// Makes the device's files, activates its directory, and makes its link.
 fn fill<N: Naming>(
     editor: &mut Editor<'_, N>,
     links: Key,
@@ -109,7 +109,7 @@ fn fill<N: Naming>(
 }
 
 /// Makes the base directories that are not there, the device's directory with its files, and its link.
-/// `nodes` says which of its nodes were made, whatever the result is.
+/// Whatever the result is, `nodes` says which of the device's nodes were made.
 pub(crate) fn make<N: Naming>(
     editor: &mut Editor<'_, N>,
     name: &[u8],

@@ -16,7 +16,7 @@ const DEVICES: &[u8] = b"/devices";
 /// Where devices have their links.
 const LINKS: &[u8] = b"/bus/devices";
 
-/// What the whole name leads to in the directory of this path.
+/// The entry with this whole name in the directory of this path.
 fn entry(state: &State, path: &[u8], name: &[u8]) -> Result<Key, Refusal>
     ensures told { result ≡ entry_at state.now path.now name.now }
 {
@@ -35,7 +35,7 @@ pub(crate) enum Wanted {
     LinkTo(Key),
 }
 
-/// Whether the node of a key is one that may be removed.
+/// Whether the node of a key is the wanted one.
 fn fits(state: &State, key: Key, wanted: Wanted) -> bool
     ensures told { result ≡ fits state.now.tree wanted key }
 {
@@ -52,9 +52,9 @@ fn fits(state: &State, key: Key, wanted: Wanted) -> bool
     }
 }
 
-/// Begins the removal of the node of this name in the directory of this path, with all below it, if it is
-/// one that may be removed. None if there is none: a name that is not lawful finds nothing, and neither does
-/// a path that leads to no directory.
+/// Begins the removal of the node with this name in the directory of this path, with all below it, if it is
+/// the wanted one. Returns None if there is no such node. A name that is not lawful finds nothing, and
+/// neither does a path that leads to no directory.
 ///
 /// Refusals: TooManyHolds or NoMemory, whichever is met first. After a refusal nothing is marked.
 pub(crate) fn begin_at<N: Naming>(
@@ -79,7 +79,7 @@ pub(crate) fn begin_at<N: Naming>(
     }
 }
 
-/// The link to this directory; whatever has the name, if none is given.
+/// The link to this directory or, if none is given, whatever has the name.
 fn link_wanted(dir: Option<Key>) -> Wanted
     ensures wanted { result ≡ link_wanted dir }
 {
@@ -89,7 +89,7 @@ fn link_wanted(dir: Option<Key>) -> Wanted
     }
 }
 
-/// This directory; whatever has the name, if none is given.
+/// This directory or, if none is given, whatever has the name.
 fn dir_wanted(dir: Option<Key>) -> Wanted
     ensures wanted { result ≡ dir_wanted dir }
 {
@@ -99,22 +99,21 @@ fn dir_wanted(dir: Option<Key>) -> Wanted
     }
 }
 
-/// What was begun of a device's removal. It must be spent, by [`crate::Bus::finish`], with the tree lock let
-/// go.
+/// An unplug that has begun. It must be passed to [`crate::Bus::finish`] once the tree is unlocked.
 pub struct Unplugging<N: Naming> {
-    /// The removal of its link, if there was one.
+    /// The removal of the device's link, if there was one.
     pub link: Option<Removing<N>>,
-    /// That of its directory, if there was one, or why it was refused.
+    /// The removal of the device's directory, if there was one, or why that removal was refused.
     pub dir: Result<Option<Removing<N>>, Refusal>,
-    // the plug whose texts are forgotten then
+    // the plug whose texts are forgotten at the end
     pub(crate) plug: Option<u64>,
 }
 
-/// Begins the removal of a device's link, and then of its directory, each by its name: of the device with
-/// this directory or, if none is given, of whichever has the name. The caller names its plug, if it knows
-/// that.
+/// Begins the removal of a device's link, and then of its directory, each by its name. The device is the one
+/// with this directory or, if none is given, whichever has the name. The caller passes the number of the
+/// device's plug, if it knows that.
 ///
-/// Refusals: TooManyHolds or NoMemory, of the link; nothing is marked after one.
+/// Refusals: TooManyHolds or NoMemory, for the link. After one of these nothing is marked.
 pub(crate) fn begin_both<N: Naming>(
     editor: &mut Editor<'_, N>,
     name: &[u8],
@@ -131,9 +130,10 @@ pub(crate) fn begin_both<N: Naming>(
     Ok(Unplugging { link, dir, plug })
 }
 
-/// Finishes both, unlocked. Whether there was something to remove, or why the directory was not.
+/// Finishes both removals, while the tree is unlocked. Returns whether there was something to remove, or why
+/// the directory was not removed.
 ///
-/// Context: sleeps; takes the tree's lock, which its caller must not have.
+/// Context: sleeps; takes the tree's lock, which the caller must not hold.
 pub(crate) fn finish_both<N: Naming, R: Wait>(
     rt: &R,
     tree: &SharedTree<N>,
@@ -148,7 +148,8 @@ pub(crate) fn finish_both<N: Naming, R: Wait>(
     Ok(was_linked || was_there)
 }
 
-/// Finishes a removal, if one has begun, unlocked, and gives its receipts back.
+/// Finishes a removal, if one has begun, while the tree is unlocked, and releases its receipts. Returns
+/// whether one had begun.
 pub(crate) fn finish<N: Naming, R: Wait>(
     rt: &R,
     tree: &SharedTree<N>,
@@ -165,7 +166,7 @@ pub(crate) fn finish<N: Naming, R: Wait>(
     }
 }
 
-/// The plug whose `value` stands in the directory of a device of this name, if there is one.
+/// The number of the plug whose `value` is in the directory of the device with this name, if there is one.
 pub(crate) fn plug_at(state: &State, name: &[u8]) -> Option<u64> {
     let dir = entry(state, DEVICES, name).ok()?;
     let value = state.find(dir, b"value").ok()?;

@@ -1,11 +1,11 @@
-//! The tags of a device's files: which plug a file is of, and which of its files it is.
+//! The tags of a device's files. A tag says which plug made the file, and which of the device's files it is.
 ghost use Rattle.std.specs.Prelude.{◌≡◌, ◌≤◌, ◌^◌, Some};
 ghost use Rattle.kf_device.specs.Tags.{meaning};
 
-/// The lowest tag of a bus. Lower ones are its caller's.
+/// The lowest tag of a bus. Lower tags are left to the caller.
 const FIRST: u64 = 1 << 63;
 
-/// Which of a device's files.
+/// Which of a device's files a file is.
 #[derive(Clone, Copy, Debug, PartialEq, Eq)]
 pub(crate) enum DeviceFile {
     Value,
@@ -33,7 +33,7 @@ pub(crate) fn tag_of(serial: u64, file: DeviceFile) -> u64
     FIRST + 4 * serial + place
 }
 
-/// The file that has this tag. None if it is no tag of a bus.
+/// The file that has this tag. None if the tag is not one of a bus.
 pub(crate) fn meaning(tag: u64) -> Option<DeviceTag>
     ensures told { result ≡ meaning tag }
 {

@@ -1,4 +1,4 @@
--- What is made of the group of a table's attributes is what is made of the table.
+-- If a group with the attributes of a table was made, or was refused, the same is true of the table.
 use Rattle.std.proofs.Common.{◌≡◌, ℕ}
 use Rattle.std.specs.Prelude.{IfOk, IfErr, List, Option, Result, Ok, Err}
 use denote.Ref.{Bor}

@@ -1,4 +1,4 @@
--- What an open of a held file gives.
+-- What an open of a held file returns, by a path and by a hold.
 use Rattle.std.proofs.Common.{◌≡◌, ◌∙◌, [], ◌∷◌, ℕ, Bool, true, false, Option, None, Some, is_some, refl, sym, ap, subst, inl, inr}
 use Rattle.std.specs.Prelude.{◌⊎◌, IfOk, IfErr, List, Result, Ok, Err}
 use Rattle.kf_core.specs.Calls.{tried}
@@ -60,7 +60,7 @@ refused hold hold' node want mode tag refusal opens is_file =
 
 -- ---- by a path
 
--- if the key's node is a file, it is the key of that
+-- if `only_file` returns a key, it is the key that was asked about, and its node is a file
 is_file : (place key : Key) (node : Option Node) → only_file place node ≡ Ok key
     → (place ≡ key) × (mode : ℕ) × (tag : ℕ) × (node ≡ Some (File mode tag))
 is_file place key None only = absurd (cc)
@@ -114,7 +114,7 @@ path_refused s m' slots place key path want hold (Err refusal) named only key_is
     (λ mode tag there. inr (subst (λ k. PostRefused slots k.slot refusal ⊎ NotOpened mode want refusal) key_is
     (why mode tag (unsome hold.node (File mode tag) (sym node ∙ there)))))
 
--- what is opened by a path is opened of what its hold is of
+-- a file that was opened by a path was opened on the node of its hold
 pub of_its_hold : (t : Tree) (root : Key) (numbers : Numbers) (path : List ℕ) (want : Want) (file : Opened Handle)
     → OpenedAt t root numbers path want file → IsOpened numbers want file
 of_its_hold t root numbers path want file opened = record {

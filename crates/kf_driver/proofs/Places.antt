@@ -1,4 +1,4 @@
--- The tag of a file of a line is of that file and of that line.
+-- The tag of a line's file leads back to that line and that file.
 use Rattle.std.proofs.Common.{◌≡◌, ℕ, true, ◌+◌, ◌-◌, ◌*◌, ◌<◌, arith, refl}
 use Rattle.std.specs.Prelude.{Some, nat_le}
 use Rattle.std.proofs.lemmas.Nat.{div-mul-add, mod-mul-add}

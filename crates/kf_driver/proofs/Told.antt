@@ -1,4 +1,4 @@
--- What a notify by a new event counter gives.
+-- What follows from a notify through a new post.
 use Rattle.std.proofs.Common.{◌≡◌, ◌∙◌, ◌+◌, ◌-◌, ◌^◌, ◌≤◌, ℕ, ap, subst}
 use Rattle.std.specs.Prelude.{IfOk, IfErr, Result, Ok, Err}
 use Rattle.kf_core.specs.declared.key.Key.{Key}

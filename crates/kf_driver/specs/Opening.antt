@@ -23,24 +23,24 @@ use Rattle.kf_looks.specs.Links.{IsLater}
 use Rattle.kf_live.specs.Lookers.{Onlooker, links_seen}
 use Rattle.kf_words.specs.Makers.{Maker}
 
--- what the key's node is
+-- the node of the key, if there is one
 abbrev pub node_at : Tree → Key → Option Node
 node_at t key = option_map (λ r. r.node) (record_at t key)
 
--- the key, if its node is a file
+-- the key if its node is a file, or else the refusal
 abbrev pub only_file : Key → Option Node → Result Key Refusal
 only_file key None = Err NoEntry
 only_file key (Some Dir) = Err IsDir
 only_file key (Some (Link target)) = Err Invalid
 only_file key (Some (File mode tag)) = Ok key
 
--- the file of a place in a tree, or why there is none
+-- the key of the file at a place in a tree, or why there is none
 abbrev pub file_at : Tree → Result Key Refusal → Result Key Refusal
 file_at t place = and_then place (λ key. only_file key (node_at t key))
 
--- the opened file is new, of the live file that the path names in this tree: it holds that, has its tag and
--- a new event counter of its slot and of these numbers, and its mode allows what is asked; its hold has the
--- same node
+-- this is a newly opened file of the live node that the path names in this tree. Its hold is of that node,
+-- and the node is a file. The opened file has the node's tag, and a new post of the node's slot and of these
+-- numbers. The node's mode allows what is asked
 pub record OpenedAt (t : Tree) (root : Key) (numbers : Numbers) (path : List ℕ) (want : Want)
     (file : Opened Handle) : Type 0 where
   pub key : Key
@@ -53,8 +53,8 @@ pub record OpenedAt (t : Tree) (root : Key) (numbers : Numbers) (path : List ℕ
   pub fresh : IsNewPost numbers key.slot file.post
   pub new : file.state ≡ new_file want
 
--- the opened file is new, of what its hold is of: it has that file's tag and a new post of its slot and of
--- these numbers, and the file's mode allows what is asked
+-- this is a newly opened file of its hold's node, and the node is a file. The opened file has the node's tag,
+-- and a new post of the node's slot and of these numbers. The node's mode allows what is asked
 pub record IsOpened (numbers : Numbers) (want : Want) (file : Opened Handle) : Type 0 where
   pub mode : ℕ
   pub node : file.hold.node ≡ File mode file.tag
@@ -68,20 +68,21 @@ pub record OpenerState : Type 0 where
   pub holds : Maker
   pub posts : Numbers
 
--- the opener is as it was, except for what its looker and its own hold have seen
+-- the opener has the same root, slots and posts as before, and its looker may have seen more; nothing is said
+-- of its maker of holds
 pub record IsSameOpener (old new : OpenerState) : Type 0 where
   pub root : new.looker.root ≡ old.looker.root
   pub slots : new.looker.slots ≡ old.looker.slots
   pub later : IsLater (links_seen new.looker) (links_seen old.looker)
   pub posts : new.posts ≡ old.posts
 
--- the post is new, of these numbers and of the slot of the file at the place
+-- there is a file at the place, and the post is new, of these numbers and of the file's slot
 abbrev pub IsPostAt : Tree → Result Key Refusal → Numbers → PostState → Type 0
 IsPostAt t place numbers post =
     (key : Key) × (file_at t place ≡ Ok key) × IsNewPost numbers key.slot post
 
--- why there is no event counter of the slot: none of this many numbers is the slot's, or, if one is, no
--- memory
+-- why there is no event counter of the slot: the slot is not one of this many (NoSpace), or it is one, and
+-- there is no memory
 abbrev pub PostRefused : ℕ → ℕ → Refusal → Type 0
 PostRefused slots slot refusal =
     ((refusal ≡ NoSpace) × (slots ≤ slot)) ⊎ ((refusal ≡ NoMemory) × (slot < slots))
@@ -90,11 +91,12 @@ PostRefused slots slot refusal =
 abbrev pub NotOpened : ℕ → Want → Refusal → Type 0
 NotOpened mode want refusal = (refusal ≡ NoDevice) ⊎ ((refusal ≡ Access) × (allows mode want ≡ false))
 
--- why there is no hold of this slot: no memory, or one load found as many holds as there may be
+-- why there is no hold of this slot: there is no memory, or one load found the greatest number of holds
 abbrev pub HeldRefused : MasterView → MasterView → ℕ → Refusal → Type 0
 HeldRefused m m' slot refusal = (refusal ≡ NoMemory) ⊎ ((refusal ≡ TooManyHolds) × WasFull m slot m')
 
--- if no file was found, that is why; else there is no hold, there is no post, or it is not opened
+-- if no file was found, the refusal is the reason for that; otherwise there is no hold of the file, there is
+-- no post, or the file is not opened
 abbrev pub FileRefused : Locked → MasterView → ℕ → Want → Result Key Refusal → Refusal → Type 0
 FileRefused s m' slots want place refusal = MatchResult place
     (λ key. (mode tag : ℕ) → node_at s.state.tree key ≡ Some (File mode tag)
@@ -107,8 +109,8 @@ abbrev pub OpenRefused : Locked → MasterView → ℕ → List ℕ → Want →
 OpenRefused s m' slots path want refusal = FileRefused s m' slots want
     (file_at s.state.tree (seen s.state.tree s.state.root path)) refusal
 
--- the file was opened under the lock: it is of what the path named in the tree when the lock was taken, and
--- this hold has seen that
+-- the file was opened under the lock: it is the file that the path named in the tree when the lock was taken,
+-- and this hold has seen the history up to then
 pub record OpenedLocked (by : Handle) (numbers : Numbers) (path : List ℕ) (want : Want)
     (file : Opened Handle) : Type 0 where
   pub found : List Note
@@ -116,8 +118,8 @@ pub record OpenedLocked (by : Handle) (numbers : Numbers) (path : List ℕ) (wan
   pub at : HasSeenTaken by root found
   pub opened : OpenedAt (tree_in found) root numbers path want file
 
--- no file was opened under the lock, and this is why, by what the lock kept when it was taken; and this hold
--- has seen that
+-- no file was opened under the lock, and this is why, given what the lock guarded when it was taken; this
+-- hold has seen the history up to then
 pub record RefusedLocked (by : Handle) (slots : ℕ) (path : List ℕ) (want : Want)
     (why : Refusal) : Type 0 where
   pub kept : Locked
@@ -126,8 +128,8 @@ pub record RefusedLocked (by : Handle) (slots : ℕ) (path : List ℕ) (want : W
   pub tree : kept.state.tree ≡ tree_in (history kept)
   pub refused : OpenRefused kept after slots path want why
 
--- the post is of these numbers and of the slot of the file at the place, and what its last load found is not
--- below the number that each slot had at first
+-- there is a file at the place; the post is of these numbers and of the file's slot, and its last load found
+-- a number that is not below the first number of each slot
 pub record Notified (t : Tree) (place : Result Key Refusal) (numbers : Numbers)
     (post : PostState) : Type 0 where
   pub key : Key
@@ -136,14 +138,16 @@ pub record Notified (t : Tree) (place : Result Key Refusal) (numbers : Numbers)
   pub slot_is : post.slot ≡ key.slot
   pub no_less : numbers.start ≤ post.found
 
--- the post's second load found a number, and its third step, a raise, made the next, which is this
+-- the post has made three steps: its last load found a number, and it raised the slot's number to the next
+-- one, which is this and the greatest that it knows
 pub record RaisedTo (number : ℕ) (post : PostState) : Type 0 where
   pub one_more : number ≡ post.found + 1
   pub made : post.made ≡ number
   pub known : post.known ≡ number
   pub three_steps : post.steps ≡ 3
 
--- the post's second load, its last step, found the last number that there is, 2^64 - 1; it has raised none
+-- the post has made two steps: its last load found the greatest number that there is, 2^64 - 1, and it has
+-- raised none
 pub record FoundLast (post : PostState) : Type 0 where
   pub found : post.found ≡ 2 ^ 64 - 1
   pub known : post.known ≡ 2 ^ 64 - 1

@@ -1,4 +1,4 @@
-//! Binary attributes with their callbacks, one row for each.
+//! Binary attributes with their callbacks, one row for each attribute.
 ghost use Rattle.std.specs.Prelude.{◌≡◌, ◌==◌, ◌-◌, ◌<◌, ◌≤◌, ℕ, Bool, true, false, List, ◌∷◌, length, Ok, Err, Result, IfOk, MatchBool};
 ghost use Rattle.kf_pages.specs.declared.ops.Fault.{Fault};
 ghost use Rattle.kf_pages.specs.Binary.{front_of};
@@ -14,36 +14,37 @@ use kf_files::{Fault, Page};
 use kf_groups::Attribute;
 use std::sync::{Mutex, Wait};
 
-/// What a binary attribute reads and writes, bytes at an offset with no page (`read` and `write` of `struct
-/// bin_attribute`). Any number of threads may call both at once.
+/// What a binary attribute reads and writes: bytes at an offset, without a page (`read` and `write` of
+/// `struct bin_attribute`). Any number of threads may call both at once.
 pub trait BinaryCallbacks {
-    /// A read from this offset on, into this much room, may give these bytes, or this fault. If a driver
-    /// does not say, any.
+    /// A read from this offset on, into this many bytes of room, may return these bytes or fail with this
+    /// fault. If a driver does not define this, any result is allowed.
     ghost gives: { Self → ℕ → ℕ → Result (List ℕ) Fault → Type 0 } = { λ _ _ _ _. Unit {0} };
 
-    /// A write at this offset of these bytes may return this. If a driver does not say what, anything.
+    /// A write of these bytes at this offset may return this result. If a driver does not define this, any
+    /// result is allowed.
     ghost takes: { Self → ℕ → List ℕ → Result ℕ Fault → Type 0 } = { λ _ _ _ _. Unit {0} };
 
-    /// Whether it takes writes at all.
+    /// Whether the attribute takes writes at all.
     ghost writes: { Self → Bool } = { λ _. true };
 
-    /// Puts the bytes from the offset on into the front of `out`, in which there is room for one or more, and
-    /// returns how many those are, 0 past the end; or gives a fault.
+    /// Copies the bytes, from the offset on, to the front of `out`, or fails with a fault. Returns how many
+    /// it copied, which is 0 past the end. `out` has room for at least one byte.
     fn read_at(&self, offset: u64, out: &mut [u8]) -> Result<usize, Fault>
         requires some { 0 < length out.old }
         ensures fits { IfOk result (λ count. count ≤ length out.new) }
         ensures read { gives self.now offset (length out.old) (front_of result out.new) };
 
-    /// Takes the bytes at the offset, one or more, and returns how many it took from their front, or gives a
-    /// fault. For a file that nobody may write it is never called.
+    /// Takes these bytes (at least one) at the offset, or fails with a fault. Returns how many it took from
+    /// their front. It is never called for a file that nobody may write.
     fn write_at(&self, offset: u64, bytes: &[u8]) -> Result<usize, Fault>
         requires some { 0 < length bytes.now }
         ensures fits { IfOk result (λ count. count ≤ length bytes.now) }
         ensures written { takes self.now offset bytes.now result };
 }
 
-/// A binary attribute of this many bytes with its callbacks, and the rows after it.
-/// [`rows!`](crate::rows) writes it in a list.
+/// A row: a binary attribute of this many bytes with its callbacks, followed by the rest of the rows.
+/// [`rows!`](crate::rows) lets you write the rows as a list.
 #[derive(Drop)]
 pub struct BinaryRow<'a, A, B> {
     attribute: Attribute<'a>,
@@ -53,11 +54,12 @@ pub struct BinaryRow<'a, A, B> {
 }
 
 impl<'a, A: BinaryCallbacks, B> BinaryRow<'a, A, B> {
-    /// The row of this attribute, before the others. Its tag does not count: the table has its own.
-    /// Its callbacks see no byte beyond the size: a read past it gives none, a write past it is Fault 6
-    /// (`ENXIO`). If there is no such end, it is `u64::MAX`.
+    /// The row of this attribute, in front of the other rows. The attribute's own tag is ignored, because the
+    /// table numbers its rows. The callbacks never see a byte past the size: a read from there on returns no
+    /// bytes, and a write there fails with Fault 6 (`ENXIO`). If there is no such end, pass `u64::MAX` as the
+    /// size.
     ///
-    /// Condition: its mode lets somebody write exactly if the callbacks take writes.
+    /// Condition: the attribute's mode lets somebody write if and only if the callbacks take writes.
     pub fn new(attribute: Attribute<'a>, size: u64, callbacks: A, others: B) -> BinaryRow<'a, A, B>
         requires writable { is_writable attribute.mode ≡ A.writes callbacks }
         ensures attribute { result.attribute ≡ attribute.entry }
@@ -75,8 +77,8 @@ impl<'a, A: BinaryCallbacks, B> BinaryRow<'a, A, B> {
 }
 
 impl<'a, A, B> BinaryRow<'a, A, B> {
-    /// The row, without a file if it is not visible on this device (`is_bin_visible`). The rows after it keep
-    /// their tags.
+    /// The same row, but it gets no file if it is not visible on this device (`is_bin_visible`). The rows
+    /// after it keep their tags.
     pub fn visible(self, is_visible: bool) -> BinaryRow<'a, A, B>
         ensures attribute { result.attribute ≡ visible_if is_visible self.entry.attribute }
         ensures size { result.size ≡ self.entry.size }
@@ -162,7 +164,7 @@ impl<A: BinaryCallbacks, B: DriverTable> DriverTable for BinaryRow<'_, A, B> {
     }
 }
 
-/// Bytes that are only read (`BIN_ATTR_SIMPLE_RO`). A write is Fault 5 (`EIO`), and changes nothing.
+/// Bytes that are only read (`BIN_ATTR_SIMPLE_RO`). A write fails with Fault 5 (`EIO`), and changes nothing.
 #[derive(Clone, Copy)]
 pub struct Bytes<'a>(pub &'a [u8]);
 
@@ -182,8 +184,9 @@ impl BinaryCallbacks for Bytes<'_> {
     }
 }
 
-/// Bytes in memory that are read and written, which a lock keeps whole. Any thread may write them meanwhile,
-/// so no clause gives them. The lock is a leaf: a thread that has it takes no other and waits for nobody.
+/// Bytes in memory that are read and written under a lock, so no read sees half of a write. Any thread may
+/// write them at any time, so no clause says what they are. The lock is a leaf: a thread that has it takes no
+/// other lock and waits for nobody.
 #[derive(Drop)]
 pub struct Buffer<'a, R> {
     rt: &'a R,
@@ -191,7 +194,7 @@ pub struct Buffer<'a, R> {
 }
 
 impl<'a, R> Buffer<'a, R> {
-    /// The attribute of these bytes. Their number stays.
+    /// Makes the attribute of these bytes. Their number never changes.
     pub fn new(rt: &'a R, bytes: Vec<u8>) -> Buffer<'a, R> {
         Buffer {
             rt,

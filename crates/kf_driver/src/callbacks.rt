@@ -6,51 +6,55 @@ ghost use Rattle.kf_driver.specs.Tables.{no_callback};
 
 use kf_files::{Fault, Page};
 
-/// What a show without a callback for it returns, and such a store (`EIO`).
+/// The fault of a show or a store for which there is no callback (`EIO`).
 const NO_CALLBACK: Fault = Fault { number: 5 };
 
 /// What an attribute shows (`show` of `struct device_attribute`). Any number of threads may call it at once.
-/// What takes a lock keeps the runtime in its struct: `Label<'a, R>` with `rt: &'a R` beside its `Mutex`, and
-/// `impl<R: Wait> Show for Label<'_, R>`.
+/// A type that takes a lock keeps the runtime in its struct. For example, `Label<'a, R>` has `rt: &'a R`
+/// beside its `Mutex`, and there is an `impl<R: Wait> Show for Label<'_, R>`.
 ///
-/// That is all for an attribute that is only read: it is in its row as [`ReadOnly`].
+/// An attribute that is only read needs nothing else: its row wraps it in [`ReadOnly`].
 pub trait Show {
-    /// A show may fill a page with these bytes, or give this fault. If a driver does not say, any.
+    /// A show may fill the page with these bytes, or fail with this fault. If a driver does not define this,
+    /// any result is allowed.
     ghost shows: { Self → Result (List ℕ) Fault → Type 0 } = { λ _ _. Unit {0} };
 
-    /// Whether it shows anything.
+    /// Whether the attribute can be shown at all.
     ghost can_show: { Self → Bool } = { λ _. true };
 
-    /// Fills the empty page, or gives a fault, as 5 if the device does not respond (`EIO`). What it filled
-    /// before a fault is not shown. For a file that nobody may read it is never called.
+    /// Fills the empty page, or fails with a fault, for example 5 (`EIO`) if the device does not respond.
+    /// What it put on the page before a fault is not shown. It is never called for a file that nobody may
+    /// read.
     fn show(&self, page: &mut Page) -> Result<(), Fault>
         requires empty { page.old.items ≡ [] }
         ensures shown { shows self.now (filled_by result page.new.items) };
 }
 
 /// What an attribute stores (`store` of `struct device_attribute`). Any number of threads may call it at
-/// once, also beside [`Show::show`].
+/// once, even while others call [`Show::show`].
 ///
-/// That is all for an attribute that is only written: it is in its row as [`WriteOnly`].
+/// An attribute that is only written needs nothing else: its row wraps it in [`WriteOnly`].
 pub trait Store {
-    /// A store of these bytes may return this. If a driver does not say what, anything.
+    /// A store of these bytes may return this result. If a driver does not define this, any result is
+    /// allowed.
     ghost takes: { Self → List ℕ → Result (Unit {0}) Fault → Type 0 } = { λ _ _ _. Unit {0} };
 
-    /// Whether it takes stores at all.
+    /// Whether the attribute takes stores at all.
     ghost can_store: { Self → Bool } = { λ _. true };
 
-    /// Takes all of the bytes, 1 to 4,096 of them, or gives a fault, as 5 if the device does not respond
-    /// (`EIO`), or that of what they do not say ([`crate::fault_of`]). For a file that nobody may write it is
-    /// never called.
+    /// Takes all of the bytes (1 to 4,096), or fails with a fault. The fault is 5 (`EIO`), for example, if
+    /// the device does not respond, or comes from [`crate::fault_of`] if the bytes could not be read. It is
+    /// never called for a file that nobody may write.
     fn store(&self, bytes: &[u8]) -> Result<(), Fault>
         requires some { 0 < length bytes.now }
         requires fits { length bytes.now ≤ 4096 }
         ensures taken { takes self.now bytes.now result };
 }
 
-/// An attribute that is only read (`DEVICE_ATTR_RO`): it shows what its callbacks show. A store is Fault 5
-/// (`EIO`), as in the kernel if a `struct device_attribute` has no `store`. It calls nothing, so nothing
-/// changes. A store by a file does not get that far: its open is refused as `Access` (`EACCES`).
+/// An attribute that is only read (`DEVICE_ATTR_RO`): it shows what its callbacks show. A store fails with
+/// Fault 5 (`EIO`), as in the kernel if a `struct device_attribute` has no `store`. The store calls nothing,
+/// so nothing changes. A write to the file does not get that far, because opening the file for writing is
+/// refused with `Access` (`EACCES`).
 #[derive(Drop)]
 pub struct ReadOnly<A>(pub A);
 
@@ -74,9 +78,9 @@ impl<A> Store for ReadOnly<A> {
     }
 }
 
-/// An attribute that is only written (`DEVICE_ATTR_WO`): it stores what its callbacks store. A show is Fault
-/// 5 (`EIO`), as in the kernel if a `struct device_attribute` has no `show`. A read by a file does not get
-/// that far: its open is refused as `Access` (`EACCES`).
+/// An attribute that is only written (`DEVICE_ATTR_WO`): it stores what its callbacks store. A show fails
+/// with Fault 5 (`EIO`), as in the kernel if a `struct device_attribute` has no `show`. A read of the file
+/// does not get that far, because opening the file for reading is refused with `Access` (`EACCES`).
 #[derive(Drop)]
 pub struct WriteOnly<A>(pub A);
 

@@ -1,4 +1,4 @@
-//! The callbacks of the files of a table's attributes.
+//! A driver's callbacks for open files, made from its table of attributes.
 ghost use Rattle.std.specs.Prelude.{◌≡◌};
 
 use crate::table::DriverTable;
@@ -7,15 +7,16 @@ use kf_shared::{Naming, SharedTree};
 use kf_words::Call;
 use std::sync::Wait;
 
-/// The callbacks of the files of a table's attributes: a file's tag is that of its attribute.
+/// Serves files with the callbacks of a table's attributes. A show, store, read or write of a file goes to
+/// the attribute that has the file's tag.
 #[derive(Drop)]
 pub struct Driver<T> {
-    /// The attributes.
+    /// The table of attributes.
     pub table: T,
 }
 
 impl<T> Driver<T> {
-    /// The callbacks of this table.
+    /// Makes the callbacks for the files of this table.
     pub fn new(table: T) -> Driver<T>
         ensures table { result.table ≡ table }
     {

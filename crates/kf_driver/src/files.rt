@@ -1,4 +1,4 @@
-//! Files and events of nodes by their names.
+//! Opens files by their paths, and raises the event numbers of files by their names.
 ghost use Rattle.std.specs.Prelude.{◌≡◌, ◌⊎◌, ℕ, IfOk, IfErr, MatchResult, Ok, true};
 ghost use Rattle.kf_core.specs.declared.key.Node.TheVariants.{File};
 ghost use Rattle.kf_pages.specs.Files.{new_file, allows};
@@ -24,7 +24,7 @@ fn only_file(state: &State, key: Key) -> Result<Key, Refusal>
     }
 }
 
-// A post of a slot.
+// Makes a post of this slot.
 fn slot_post(posts: &mut Posts, slot: u32) -> Result<Post, Refusal>
     ensures made { IfOk result (λ post. IsNewPost posts.old slot post) }
     ensures refused { IfErr result (λ refusal. PostRefused posts.old.slots slot refusal) }
@@ -36,8 +36,8 @@ fn slot_post(posts: &mut Posts, slot: u32) -> Result<Post, Refusal>
     posts.post(slot)
 }
 
-// Opens the file of a hold, whose node is a file, on a page. After a refusal the slot has one hold fewer, and
-// the page goes.
+// Opens the file of a hold (whose node is a file), with this page. After a refusal the hold is released, and
+// the page is dropped.
 #[tactic(auto, using(crate::proofs::Openings::opened, crate::proofs::Openings::refused))]
 pub(crate) fn open_held<N: Naming, P: PageHolder + Drop>(
     hold: Hold,
@@ -72,11 +72,13 @@ pub(crate) fn open_held<N: Naming, P: PageHolder + Drop>(
     }
 }
 
-/// Opens the file that a path names, under a lock that the caller has. (Without it: [`crate::Opener`].)
+/// Opens the file that a path names, while the caller has the tree locked. ([`crate::Opener`] opens files
+/// without the lock.)
 ///
-/// Refusals, in order: those of [`State::lookup`]; IsDir (a directory), Invalid (a link); TooManyHolds (as
-/// many holds as there may be), NoMemory; NoSpace (the posts have no number for the slot), NoMemory; NoDevice
-/// and Access, as those of [`WaitingFile::open`]. After a refusal the slot has the holds that it had.
+/// Refusals, in order: those of [`State::lookup`]; IsDir (the node is a directory), Invalid (the node is a
+/// link); TooManyHolds (the node already has the greatest number of holds), NoMemory; NoSpace (the posts have
+/// no number for the slot), NoMemory; NoDevice and Access, as [`WaitingFile::open`] returns them. After a
+/// refusal the slot has the same holds as before.
 pub fn open_path<N: Naming>(
     editor: &mut Editor<'_, N>,
     posts: &mut Posts,
@@ -94,8 +96,8 @@ pub fn open_path<N: Naming>(
     open_path_on(editor, posts, path, want, Page::new())
 }
 
-/// As [`open_path`], on a page that the caller lends, as [`WaitingFile::open_on`] takes it: none of its
-/// 4,096 bytes is moved if it lies in a box. After a refusal the page goes.
+/// Like [`open_path`], but with a page that the caller passes in (see [`WaitingFile::open_on`]). If that page
+/// is in a box, none of its 4,096 bytes is moved. After a refusal the page is dropped.
 pub fn open_path_on<N: Naming, P: PageHolder + Drop>(
     editor: &mut Editor<'_, N>,
     posts: &mut Posts,
@@ -117,13 +119,14 @@ pub fn open_path_on<N: Naming, P: PageHolder + Drop>(
     open_held(hold, posts, want, page)
 }
 
-/// An event counter of the file of this name in a directory, by which a driver notifies pollers of the file
-/// that it has changed ([`Post::notify`], without a look-up). No number is raised.
+/// Makes an event counter (a post) of the file with this name in a directory. A driver uses it to notify
+/// pollers that the file has changed ([`Post::notify`], without a look-up). Making it raises no number.
 ///
-/// The event counter is of the slot: once the file is removed, it counts for what gets that slot next.
+/// The event counter belongs to the slot. Once the file is removed, it counts for the next node that gets
+/// this slot.
 ///
-/// Refusals, in order: those of [`State::find`]; IsDir (a directory), Invalid (a link); NoSpace (the posts
-/// have no number for the slot), NoMemory.
+/// Refusals, in order: those of [`State::find`]; IsDir (the node is a directory), Invalid (the node is a
+/// link); NoSpace (the posts have no number for the slot), NoMemory.
 pub fn post_of(state: &State, posts: &mut Posts, dir: Key, name: &[u8]) -> Result<Post, Refusal>
     ensures made { IfOk result
         (λ post. IsPostAt state.now.tree (found state.now.tree dir name.now) posts.old post) }
@@ -137,14 +140,15 @@ pub fn post_of(state: &State, posts: &mut Posts, dir: Key, name: &[u8]) -> Resul
     slot_post(posts, file.slot)
 }
 
-/// Notifies pollers of the file of this name in a directory that it has changed (`sysfs_notify`), and
-/// returns its slot's new event number and the event counter that made it. `Full` in place of a number if
-/// the event counter found the last that there is, 2^64 - 1, and then none was raised.
+/// Notifies pollers that the file with this name in a directory has changed (`sysfs_notify`). Returns the
+/// slot's new event number, and the event counter that made it. If the counter found the greatest number,
+/// 2^64 - 1, then no number was raised, and `Full` is returned in place of a number.
 ///
-/// A driver that notifies often takes a post by [`post_of`], or keeps this one, and calls [`Post::notify`].
+/// A driver that notifies often gets a post from [`post_of`], or keeps the one that is returned here, and
+/// calls [`Post::notify`].
 ///
-/// Refusals, in order: those of [`State::find`]; IsDir (a directory), Invalid (a link); NoSpace (the posts
-/// have no number for the slot), NoMemory. After a refusal no number was raised.
+/// Refusals, in order: those of [`State::find`]; IsDir (the node is a directory), Invalid (the node is a
+/// link); NoSpace (the posts have no number for the slot), NoMemory. After a refusal no number was raised.
 #[tactic(auto, using(crate::proofs::Told::told, crate::proofs::Told::raised, crate::proofs::Told::last))]
 pub fn notify(
     state: &State,

@@ -1,7 +1,8 @@
-//! The tags of many lines that are alike.
+//! The tags of several lines that are alike.
 ghost use Rattle.std.specs.Prelude.{◌≡◌, ◌<◌};
 
-/// The tags of the files of lines that are alike: this many files for each line, from `first` on.
+/// The tags of the files of several lines that are alike. Each line has the same number of files, and the
+/// tags count up from `first`.
 #[derive(Clone, Copy)]
 pub struct LineTags {
     pub(crate) first: u32,
@@ -10,9 +11,9 @@ pub struct LineTags {
 }
 
 impl LineTags {
-    /// Tags from `first` on, of this many files for each line.
+    /// Makes tags from `first` on, for lines with this many files each.
     ///
-    /// Condition: a line has a file.
+    /// Condition: a line has at least one file.
     pub const fn new(first: u32, files: u32) -> LineTags
         requires some { 0 < files }
         ensures first { result.first ≡ first }

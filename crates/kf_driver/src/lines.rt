@@ -1,4 +1,4 @@
-//! The rows of many lines that are alike.
+//! Tables of several lines that are alike.
 ghost use Rattle.std.specs.Prelude.{◌≡◌, ◌+◌, ◌-◌, ◌*◌, ◌^◌, ◌<◌, ◌≤◌, ℕ, length, IfErr, IfOk, MatchOption, Some, None};
 ghost use Rattle.kf_groups.specs.declared.attribute.Group.{Group};
 ghost use Rattle.kf_groups.specs.Keeps.{Keeps};
@@ -25,13 +25,13 @@ impl LineTags {
         u64::from(line) * u64::from(self.files) + u64::from(self.first)
     }
 
-    /// Makes the files of one line in a directory, or in one made for them, as [`create_rows`] does: the
-    /// attribute at place `i` of the rows, counted from 0, gets the tag of this line's file `i`, which no
-    /// other file of any line has.
+    /// Makes the files of one line in a directory or, if a name is given, in a new subdirectory, as
+    /// [`create_rows`] does. The attribute at place `i` of the rows, counted from 0, gets the tag of this
+    /// line's file `i`. No other file of any line has this tag.
     ///
-    /// Conditions: there are at most 64 rows, and at most as many as a line has files.
+    /// Conditions: there are at most 64 rows, and a line has at least as many files as there are rows.
     ///
-    /// Refusals, in order: those of [`kf_groups::create_group`], which leave what it says.
+    /// Refusals, in order: those of [`kf_groups::create_group`], which says what each of them leaves behind.
     pub fn create_rows<N: Naming, T: Rows>(
         &self,
         editor: &mut Editor<'_, N>,
@@ -56,7 +56,8 @@ impl LineTags {
         create_from(editor, dir, name, self.first_of(line), rows)
     }
 
-    // Which file of which line has the tag. None if it is below all of them.
+    // The line and the file to which this tag belongs, each counted from 0. None if the tag is below the
+    // first one.
     fn place_of(&self, tag: u64) -> Option<(u64, u64)>
         ensures place { result ≡ place_of self.now tag }
     {
@@ -66,8 +67,8 @@ impl LineTags {
     }
 }
 
-/// The rows of lines that are alike, and the rows after them. Each line is a table by itself, of the tags
-/// from 0 on.
+/// The rows of several lines that are alike, followed by the rest of the rows. Each line is a table of its
+/// own, whose tags begin at 0.
 #[derive(Drop)]
 pub struct Lines<'a, A, B> {
     tags: LineTags,
@@ -76,7 +77,7 @@ pub struct Lines<'a, A, B> {
 }
 
 impl<'a, A, B> Lines<'a, A, B> {
-    /// The rows of these lines, before the others.
+    /// The rows of these lines, in front of the other rows.
     pub fn new(tags: LineTags, lines: &'a [A], others: B) -> Lines<'a, A, B>
         ensures tags { result.tags ≡ tags }
         ensures lines { result.lines.now ≡ lines.now }
@@ -89,7 +90,7 @@ impl<'a, A, B> Lines<'a, A, B> {
         }
     }
 
-    // The line that has a file of this tag, and which of its files that is.
+    // The line that has the file with this tag, and the place of the file in that line.
     fn row_of(&self, tag: u64) -> Option<(&A, u64)>
         ensures row { MatchOption result (row_of self.now.tags self.now.lines.now tag ≡ None)
             (λ row. row_of self.now.tags self.now.lines.now tag ≡ Some (row.0.now, row.1)) }

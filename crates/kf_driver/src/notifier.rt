@@ -1,4 +1,4 @@
-//! A post that callbacks may raise.
+//! Notifying the pollers of a file, from any thread or callback.
 ghost use Rattle.std.specs.Prelude.{◌≡◌};
 
 use crate::callbacks::{Show, Store};
@@ -6,9 +6,10 @@ use kf_files::{Fault, Page};
 use kf_notify::{Full, Post};
 use std::sync::{Mutex, Wait};
 
-/// Notifies pollers of a file that it has changed, from any thread, callbacks too (`sysfs_notify_dirent`).
-/// It is made before its file, and gets the file's post from [`Notifier::set`]. The post is behind a lock
-/// that is a leaf: a thread that has it takes no other and waits for nobody.
+/// Notifies pollers that a file has changed, from any thread and even from a callback
+/// (`sysfs_notify_dirent`). A notifier is made before its file, and gets the file's post from
+/// [`Notifier::set`]. The post is behind a lock that is a leaf: a thread that has it takes no other lock and
+/// waits for nobody.
 #[derive(Drop)]
 pub struct Notifier<'a, R> {
     rt: &'a R,
@@ -16,8 +17,8 @@ pub struct Notifier<'a, R> {
 }
 
 impl<'a, R: Wait> Notifier<'a, R> {
-    /// A notifier without a post, so that it notifies nobody yet. Nobody outside sees what its lock keeps, so
-    /// no clause speaks of it.
+    /// Makes a notifier without a post, which notifies nobody yet. A contract cannot see what is behind its
+    /// lock, so no clause mentions it.
     pub fn new(rt: &'a R) -> Notifier<'a, R> {
         Notifier {
             rt,
@@ -25,16 +26,18 @@ impl<'a, R: Wait> Notifier<'a, R> {
         }
     }
 
-    /// Notifies by this post from now on ([`post_of`](crate::post_of) of the file that was made).
+    /// Sets the post that this notifier uses from now on: the one that [`post_of`](crate::post_of) returns
+    /// for the file, once the file is made.
     ///
     /// Context: takes the lock of the post.
     pub fn set(&self, post: Post) {
         *self.post.lock(self.rt) = Some(post);
     }
 
-    /// Raises the slot's event number, and returns it; `Full` if it is the last that there is. None: there
-    /// is no post. The event counter behind the lock is as the last thread left it; of an event counter in
-    /// your hands [`Post::notify`] gives the number by contract.
+    /// Raises the slot's event number and returns it, or returns `Full` if it is already the greatest number.
+    /// Returns None if there is no post yet. The post behind the lock is as the last thread left it, so no
+    /// clause says which number this is. If you keep a post yourself, the contract of [`Post::notify`] says
+    /// which.
     ///
     /// Context: takes the lock of the post.
     pub fn notify(&self) -> Option<Result<u64, Full>> {
@@ -46,17 +49,17 @@ impl<'a, R: Wait> Notifier<'a, R> {
     }
 }
 
-/// An attribute that notifies pollers of its file when it was stored.
+/// An attribute that notifies the pollers of its file after each successful store.
 #[derive(Drop)]
 pub struct Notifying<'a, A, R> {
-    /// What is shown and stored.
+    /// The callbacks that show and store.
     pub callbacks: A,
     /// The notifier of its file's slot.
     pub notifier: Notifier<'a, R>,
 }
 
 impl<'a, A, R: Wait> Notifying<'a, A, R> {
-    /// The attribute of these callbacks. It notifies nobody until its `notifier` is set.
+    /// Makes the attribute of these callbacks. It notifies nobody until its `notifier` has a post.
     pub fn new(rt: &'a R, callbacks: A) -> Notifying<'a, A, R>
         ensures callbacks { result.callbacks ≡ callbacks }
     {

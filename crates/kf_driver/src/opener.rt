@@ -17,13 +17,14 @@ use std::alloc::Global;
 use std::marker::Model;
 use std::sync::Wait;
 
-/// How many pages are kept.
+/// The maximum number of pages that an opener keeps.
 const MOST_PAGES: usize = 16;
 
-/// What one thread opens files of a tree by, without the tree's lock: a maker of holds of paths, a handle of
-/// the event numbers, and the pages of files that were closed, up to 16. Each thread has its own.
+/// Opens files of a tree by their paths, without the tree's lock if possible. An opener has a maker of holds
+/// by path, a handle of the event numbers, and up to 16 pages of files that were closed. Each thread has its
+/// own opener.
 ///
-/// In a tree that was not made `with_looks` each open takes the lock.
+/// If the tree was not made `with_looks`, each open takes the lock.
 pub struct Opener<N: Naming> {
     holder: PathHolder<N>,
     posts: Posts,
@@ -42,9 +43,10 @@ impl<N: Naming> Model for Opener<N> {
 }
 
 impl<N: Naming> Opener<N> {
-    /// An opener for the tree of a guard, whose looker was informed of all that the tree says now.
+    /// Makes an opener for the tree of this editor. The opener's looker has now seen all that was done in
+    /// that tree.
     ///
-    /// Refusals: TooManyHolds (of the root there are as many holds as there may be), NoMemory.
+    /// Refusals: TooManyHolds (the root already has the greatest number of holds), NoMemory.
     pub fn new(
         alloc: Global,
         editor: &mut Editor<'_, N>,
@@ -66,7 +68,7 @@ impl<N: Naming> Opener<N> {
         })
     }
 
-    // A page of a file that was closed, or else a new one.
+    // A page that a closed file has left, or else a new one.
     fn page(&mut self) -> Result<Box<PageApart>, Refusal>
         ensures refused { IfErr result (λ why. why ≡ refusal_of.NoMemory) }
         ensures same { self.new ≡ self.old }
@@ -77,10 +79,11 @@ impl<N: Naming> Opener<N> {
         }
     }
 
-    /// Opens the file that a path names, with no lock of the tree and no wait.
+    /// Opens the file that a path names, without taking the tree's lock and without waiting.
     ///
-    /// None is no refusal: ask under the lock, as [`Opener::open`] does. The looker found nothing (as of a
-    /// name that is not there), or what it found does not open.
+    /// None is not a refusal: the caller must try again under the lock, as [`Opener::open`] does. None means
+    /// that the looker found nothing (for example because there is no such name), or that what it found could
+    /// not be opened.
     #[tactic(auto, using(crate::proofs::Openings::of_hold))]
     pub fn try_open(&mut self, path: &[u8], want: Want) -> Option<BoxedFile<N>>
         ensures found { IfSome result (λ file. LedTo self.new.looker path.now file.hold.key) }
@@ -102,7 +105,7 @@ impl<N: Naming> Opener<N> {
         }
     }
 
-    /// Opens the file that a path names, under a lock that was just taken, on a page.
+    /// Opens the file that a path names, with this page, under a lock that was just taken.
     fn open_locked(
         &mut self,
         editor: &mut Editor<'_, N>,
@@ -123,14 +126,15 @@ impl<N: Naming> Opener<N> {
         open_path_on(editor, &mut self.posts, path, want, page)
     }
 
-    /// Opens the file that a path names: without the lock of this tree if that can be, and else under it.
-    /// What it opened, or refused, under the lock was so in the tree of the history when the lock was taken,
-    /// and the opener's own hold has seen that history.
+    /// Opens the file that a path names, without the tree's lock if possible, and otherwise under it. What is
+    /// opened or refused under the lock follows from the tree of the history at the moment when the lock was
+    /// taken. The opener's own hold has seen that history.
     ///
-    /// Refusals: NoMemory (of a page); those of [`open_path`](crate::open_path), which are found under the
-    /// lock, in their order.
+    /// Refusals: NoMemory (for a page); those of [`open_path`](crate::open_path), in their order. The latter
+    /// are found under the lock.
     ///
-    /// Context: takes the tree's lock if [`Opener::try_open`] finds nothing; its caller must not have it.
+    /// Context: takes the tree's lock if [`Opener::try_open`] returns None, so the caller must not hold that
+    /// lock.
     pub fn open<R: Wait>(
         &mut self,
         rt: &R,
@@ -152,8 +156,9 @@ impl<N: Naming> Opener<N> {
         self.open_locked(&mut tree.edit(rt), path, want, page)
     }
 
-    /// Closes a file. What it had of memory goes to the next ones: these write no count of owners that other
-    /// threads write, except for that of the event numbers.
+    /// Closes a file. Its memory is kept for files that this opener opens later, but at most 16 pages are
+    /// kept. With this memory, an open writes no reference count that other threads also write, except that
+    /// of the event numbers.
     pub fn close(&mut self, file: BoxedFile<N>)
         ensures looker { self.new.looker ≡ self.old.looker }
         ensures hold { self.new.holds.by ≡ self.old.holds.by }
@@ -168,7 +173,7 @@ impl<N: Naming> Opener<N> {
 }
 
 impl<N: Naming> Drop for Opener<N> {
-    /// Gives its hold of the root back.
+    /// Releases the opener's hold of the root.
     fn drop(self) {
         let Opener {
             holder,

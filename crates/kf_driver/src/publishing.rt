@@ -1,4 +1,4 @@
-//! A table makes the files of its attributes.
+//! Makes the files of a table's attributes.
 ghost use Rattle.std.specs.Prelude.{◌≡◌, ◌+◌, ◌-◌, ◌^◌, ◌≤◌, length, IfErr, IfOk};
 ghost use Rattle.kf_groups.specs.declared.attribute.Group.{Group};
 ghost use Rattle.kf_groups.specs.Keeps.{Keeps};
@@ -38,14 +38,14 @@ pub(crate) fn create_from<N: Naming, T: Rows>(
     create_group(editor, dir, &group)
 }
 
-/// Makes the files of a table's attributes in a directory, or in one of this name made for them, all or none
-/// (`sysfs_create_group`, `device_add_groups`): exactly those of its rows, in their order. The row at place
-/// `i`, counted from 0, serves the file with the tag `i`. Gives the key of the directory that the files stand
-/// in.
+/// Makes the files of a table's attributes, all or none, in a directory or, if a name is given, in a new
+/// subdirectory of that name (`sysfs_create_group`, `device_add_groups`). It makes the files of exactly these
+/// rows, in their order. The row at place `i`, counted from 0, serves the file with the tag `i`. Returns the
+/// key of the directory that has the files.
 ///
 /// Condition: there are at most 64 rows.
 ///
-/// Refusals, in order: those of [`create_group`], which leave what it says.
+/// Refusals, in order: those of [`create_group`], which says what each of them leaves behind.
 pub fn create_rows<N: Naming, T: Rows>(
     editor: &mut Editor<'_, N>,
     dir: Key,

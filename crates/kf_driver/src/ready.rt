@@ -9,7 +9,7 @@ use kf_files::{Fault, Page};
 use kf_text::{Part, emit, read_flag, read_signed, read_unsigned};
 use std::sync::atomic::{AtomicBool, AtomicI64, AtomicU64, Ordering};
 
-/// Puts a part and a newline on an empty page, as most shows do.
+/// Fills an empty page with a part and a newline, as most shows do.
 ///
 /// Condition: the page is empty.
 pub fn emit_line(page: &mut Page, part: Part<'_>)
@@ -19,8 +19,8 @@ pub fn emit_line(page: &mut Page, part: Part<'_>)
     emit(page, &[part, Part::Newline]);
 }
 
-/// A number that is shown in decimal, and stored if it is at most `most` (`DEVICE_ULONG_ATTR`).
-/// Any thread may store it meanwhile, so no clause gives its value.
+/// A number that is shown in decimal (`DEVICE_ULONG_ATTR`). A store accepts a number of at most `most`. Any
+/// thread may store a new number at any time, so no clause says what the value is.
 #[derive(Drop)]
 pub struct Number {
     value: AtomicU64,
@@ -28,7 +28,7 @@ pub struct Number {
 }
 
 impl Number {
-    /// A number, which a store leaves at `most` or below.
+    /// Makes the attribute with this value. A store accepts a number of at most `most`.
     pub fn new(value: u64, most: u64) -> Number
         ensures most { result.most ≡ most }
     {
@@ -38,12 +38,12 @@ impl Number {
         }
     }
 
-    /// The number by now.
+    /// The current number.
     pub fn get(&self) -> u64 {
         self.value.load(Ordering::SeqCst)
     }
 
-    /// Puts another number there, be it above `most`.
+    /// Sets the number, which may be above `most`.
     pub fn set(&self, value: u64) {
         self.value.store(value, Ordering::SeqCst);
     }
@@ -72,8 +72,8 @@ impl Store for Number {
     }
 }
 
-/// A number that may be below zero, stored if it is from `least` to `most` (`DEVICE_INT_ATTR`).
-/// Any thread may store it meanwhile, so no clause gives its value.
+/// A number that may be negative (`DEVICE_INT_ATTR`). A store accepts a number from `least` to `most`. Any
+/// thread may store a new number at any time, so no clause says what the value is.
 #[derive(Drop)]
 pub struct Signed {
     value: AtomicI64,
@@ -82,7 +82,7 @@ pub struct Signed {
 }
 
 impl Signed {
-    /// A number, which a store leaves from `least` to `most`.
+    /// Makes the attribute with this value. A store accepts a number from `least` to `most`.
     pub fn new(value: i64, least: i64, most: i64) -> Signed
         ensures least { result.least ≡ least }
         ensures most { result.most ≡ most }
@@ -94,12 +94,12 @@ impl Signed {
         }
     }
 
-    /// The number by now.
+    /// The current number.
     pub fn get(&self) -> i64 {
         self.value.load(Ordering::SeqCst)
     }
 
-    /// Puts another number there, be it beyond these bounds.
+    /// Sets the number, which may be outside these bounds.
     pub fn set(&self, value: i64) {
         self.value.store(value, Ordering::SeqCst);
     }
@@ -128,22 +128,22 @@ impl Store for Signed {
     }
 }
 
-/// A switch: `1` or `0`, stored by what `read_flag` takes (`DEVICE_BOOL_ATTR`). Any
-/// thread may store it meanwhile, so no clause gives its value.
+/// A switch that is shown as `1` or `0` (`DEVICE_BOOL_ATTR`). A store accepts what `read_flag` accepts. Any
+/// thread may store a new value at any time, so no clause says what the value is.
 #[derive(Drop)]
 pub struct Switch {
     value: AtomicBool,
 }
 
 impl Switch {
-    /// A switch that is on or off.
+    /// Makes a switch that is on if `value` is true.
     pub fn new(value: bool) -> Switch {
         Switch {
             value: AtomicBool::new(value),
         }
     }
 
-    /// Whether it is on by now.
+    /// Whether the switch is on at the moment.
     pub fn get(&self) -> bool {
         self.value.load(Ordering::SeqCst)
     }
@@ -177,7 +177,8 @@ impl Store for Switch {
     }
 }
 
-/// A text that is shown with a newline behind it; in its row it is a `ReadOnly` (`DEVICE_STRING_ATTR_RO`).
+/// A text that is shown with a newline after it (`DEVICE_STRING_ATTR_RO`). In its row it is wrapped in
+/// `ReadOnly`.
 #[derive(Clone, Copy)]
 pub struct Text<'a>(pub &'a [u8]);
 

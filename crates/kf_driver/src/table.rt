@@ -1,4 +1,4 @@
-//! Attributes with their callbacks, one row for each.
+//! The table of a driver: one row for each attribute, with its callbacks.
 ghost use Rattle.std.specs.Prelude.{◌≡◌, ◌==◌, ◌+◌, ◌-◌, ◌^◌, ◌<◌, ◌≤◌, ◌++◌, ℕ, List, [], ◌∷◌, length, Result, Err, IfOk, MatchBool};
 ghost use Rattle.kf_pages.specs.declared.ops.Fault.{Fault};
 ghost use Rattle.kf_pages.specs.Binary.{front_of};
@@ -12,39 +12,40 @@ use arrayvec::ArrayVec;
 use kf_files::{Fault, Page};
 use kf_groups::Attribute;
 
-/// Attributes by their tags.
+/// A table of attributes, which finds each attribute by its tag.
 pub trait DriverTable {
-    /// A show for this tag may fill a page with these bytes, or give this fault.
+    /// A show of the attribute with this tag may fill the page with these bytes, or fail with this fault.
     ghost may_show: { Self → ℕ → Result (List ℕ) Fault → Type 0 };
 
-    /// A store of these bytes for this tag may return this.
+    /// A store of these bytes into the attribute with this tag may return this result.
     ghost may_store: { Self → ℕ → List ℕ → Result ℕ Fault → Type 0 };
 
-    /// A read for this tag from this offset on, into this much room, may give these bytes, or this fault.
+    /// A read of the attribute with this tag, from this offset on, into this many bytes of room, may return
+    /// these bytes or fail with this fault.
     ghost may_read_at: { Self → ℕ → ℕ → ℕ → Result (List ℕ) Fault → Type 0 };
 
-    /// A write for this tag at this offset of these bytes may return this.
+    /// A write of these bytes at this offset, to the attribute with this tag, may return this result.
     ghost may_write_at: { Self → ℕ → ℕ → List ℕ → Result ℕ Fault → Type 0 };
 
-    /// Shows the attribute of this tag on the empty page.
+    /// Fills the empty page with the text of the attribute that has this tag.
     fn show(&self, tag: u64, page: &mut Page) -> Result<(), Fault>
         requires empty { page.old.items ≡ [] }
         ensures shown { may_show self.now tag (filled_by result page.new.items) };
 
-    /// Stores the bytes, 1 to 4,096 of them, into the attribute of this tag.
+    /// Stores these bytes (1 to 4,096) into the attribute that has this tag.
     fn store(&self, tag: u64, bytes: &[u8]) -> Result<usize, Fault>
         requires some { 0 < length bytes.now }
         requires fits { length bytes.now ≤ 4096 }
         ensures stored { may_store self.now tag bytes.now result };
 
-    /// Reads the binary attribute of this tag from the offset on into the front of `out`, which has room for
-    /// a byte or more, and returns how many bytes those are.
+    /// Reads the binary attribute that has this tag, from the offset on, into the front of `out`. Returns the
+    /// number of bytes read. `out` has room for at least one byte.
     fn read_at(&self, tag: u64, offset: u64, out: &mut [u8]) -> Result<usize, Fault>
         requires some { 0 < length out.old }
         ensures fits { IfOk result (λ count. count ≤ length out.new) }
         ensures read { may_read_at self.now tag offset (length out.old) (front_of result out.new) };
 
-    /// Writes the bytes, one or more, into the binary attribute of this tag at the offset, and returns how
+    /// Writes these bytes (at least one) at the offset to the binary attribute that has this tag. Returns how
     /// many of them it took.
     fn write_at(&self, tag: u64, offset: u64, bytes: &[u8]) -> Result<usize, Fault>
         requires some { 0 < length bytes.now }
@@ -52,14 +53,15 @@ pub trait DriverTable {
         ensures written { may_write_at self.now tag offset bytes.now result };
 }
 
-/// A table of rows: the list of a device's attributes, each with its callbacks, down to [`End`]. The row at
-/// place `i`, counted from 0, serves the file of tag `i`, and no other row does.
-/// [`create_rows`](crate::create_rows) makes these files, so nobody writes a tag.
+/// A table of rows: the list of a device's attributes, each with its callbacks, which ends with [`End`]. Only
+/// the row at place `i`, counted from 0, serves the file with the tag `i`.
+/// [`create_rows`](crate::create_rows) makes these files, so you never write a tag.
 pub trait Rows: DriverTable {
     /// The attributes of the rows, in their order.
     ghost attributes: { Self → List Attribute };
 
-    /// Pushes the attributes of the rows to the list, in their order, with tags from `first` on.
+    /// Appends the attributes of the rows to the list, in their order. Their tags are numbered from `first`
+    /// on.
     ///
     /// Conditions: the list has room for them, and their tags fit into 64 bits.
     fn push_attributes<'t>(&'t self, first: u64, list: &mut ArrayVec<Attribute<'t>, 64>)
@@ -68,7 +70,8 @@ pub trait Rows: DriverTable {
         ensures pushed { list.new.items ≡ list.old.items ++ numbered first (attributes self.now) };
 }
 
-/// An attribute with its callbacks, and the rows after it. [`rows!`](crate::rows) writes them as a list.
+/// A row: an attribute with its callbacks, followed by the rest of the rows. [`rows!`](crate::rows) lets you
+/// write the rows as a list.
 #[derive(Drop)]
 pub struct Row<'a, A, B> {
     attribute: Attribute<'a>,
@@ -76,11 +79,11 @@ pub struct Row<'a, A, B> {
     others: B,
 }
 
-/// The end of a table: every tag is Fault 22.
+/// The end of a table: whatever the tag, each show, store, read and write fails with Fault 22 (`EINVAL`).
 #[derive(Clone, Copy)]
 pub struct End;
 
-/// The attribute, with mode 0 if it is not visible.
+/// The attribute, with its mode set to 0 if it is not visible.
 pub(crate) fn visible_if(is_visible: bool, attribute: Attribute) -> Attribute
     ensures mode { result ≡ visible_if is_visible attribute.entry }
 {
@@ -89,11 +92,12 @@ pub(crate) fn visible_if(is_visible: bool, attribute: Attribute) -> Attribute
 }
 
 impl<'a, A: Show + Store, B> Row<'a, A, B> {
-    /// The row of this attribute, before the others. Its tag does not count: the table has its own.
+    /// The row of this attribute, in front of the other rows. The attribute's own tag is ignored, because the
+    /// table numbers its rows.
     ///
-    /// Conditions: its mode lets somebody read exactly if the callbacks show, and lets somebody write exactly
-    /// if they take stores. What is only read is a [`crate::ReadOnly`], what is only written a
-    /// [`crate::WriteOnly`].
+    /// Conditions: the attribute's mode lets somebody read if and only if the callbacks show, and lets
+    /// somebody write if and only if they take stores. So wrap the callbacks in [`crate::ReadOnly`] if the
+    /// attribute is only read, and in [`crate::WriteOnly`] if it is only written.
     pub fn new(attribute: Attribute<'a>, callbacks: A, others: B) -> Row<'a, A, B>
         requires readable { is_readable attribute.mode ≡ A.can_show callbacks }
         requires writable { is_writable attribute.mode ≡ A.can_store callbacks }
@@ -110,8 +114,8 @@ impl<'a, A: Show + Store, B> Row<'a, A, B> {
 }
 
 impl<'a, A, B> Row<'a, A, B> {
-    /// The row, without a file if it is not visible on this device (`is_visible`). The rows after it keep
-    /// their tags.
+    /// The same row, but it gets no file if it is not visible on this device (`is_visible`). The rows after
+    /// it keep their tags.
     pub fn visible(self, is_visible: bool) -> Row<'a, A, B>
         ensures attribute { result.attribute ≡ visible_if is_visible self.entry.attribute }
         ensures callbacks { result.callbacks ≡ self.entry.callbacks }
@@ -129,14 +133,14 @@ impl<'a, A, B> Row<'a, A, B> {
         }
     }
 
-    /// The callbacks of the row, as to give a [`crate::Notifier`] its post.
+    /// The callbacks of the row, for example to give a [`crate::Notifier`] its post.
     pub fn callbacks(&self) -> &A
         ensures callbacks { result.now ≡ self.now.callbacks }
     {
         &self.callbacks
     }
 
-    /// The rows after it.
+    /// The rows after this one.
     pub fn others(&self) -> &B
         ensures others { result.now ≡ self.now.others }
     {
@@ -232,10 +236,10 @@ impl Rows for End {
     fn push_attributes<'t>(&'t self, _first: u64, _list: &mut ArrayVec<Attribute<'t>, 64>) {}
 }
 
-/// The rows of a table as a list, in order, down to [`End`]. So `rows! { Row(MAX, max) if has_max,
-/// BinaryRow(DUMP, 64, dump) }` is
-/// `Row::new(MAX, max, BinaryRow::new(DUMP, 64, dump, End)).visible(has_max)`.
-/// A row with `if` has a file only if its condition is true ([`Row::visible`]).
+/// Writes the rows of a table as a list, in order, and ends the list with [`End`]. So
+/// `rows! { Row(MAX, max) if has_max, BinaryRow(DUMP, 64, dump) }` is
+/// `Row::new(MAX, max, BinaryRow::new(DUMP, 64, dump, End)).visible(has_max)`. A row with `if` has a file
+/// only if its condition is true ([`Row::visible`]).
 #[macro_export]
 macro_rules! rows {
     () => {

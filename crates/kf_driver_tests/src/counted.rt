@@ -1,13 +1,13 @@
-//! Callbacks that show how often they were called.
+//! Callbacks that count how often they were called, and show it.
 
 use kf_driver::{Show, Store, fault_of};
 use kf_files::{Fault, Page};
 use kf_text::{Base, Part, emit, emit_at, read_unsigned_in, read_word};
 use std::sync::atomic::{AtomicU64, Ordering};
 
-/// Shows in base 16 how often it was called before, with 0x100 for each store, over a line that it has put
-/// there. The third call that shows is a fault. It takes two words, and numbers to 31, in the base that their
-/// front says.
+/// Shows in base 16 how often it was called before, counting each store as 0x100 calls. It writes this over a
+/// line that it has put on the page. A show fails with a fault if the count is 2. A store takes the words
+/// `off` and `on`, and numbers up to 31 in the base that their prefix says.
 #[derive(Drop)]
 pub(crate) struct Counted {
     pub(crate) calls: AtomicU64,

@@ -1,5 +1,5 @@
-//! Files of a group by their paths: what opens them, what they show and take, how often their callbacks are
-//! called, and who sees a change.
+//! Files of a group, by their paths: what opens them, what they show and store, how often their callbacks are
+//! called, and which polls see a change.
 ghost use Rattle.std.specs.Prelude.{◌≡◌, ◌≤◌, length};
 
 use crate::counted::Counted;
@@ -26,7 +26,7 @@ const INVALID: FileError = FileError::Callback(Fault { number: 22 });
 const RANGE: FileError = FileError::Callback(Fault { number: 34 });
 
 static STEPS: [(&[u8], Step<'static>); 72] = [
-    // Files in slots that have words for look-ups open without the lock, and others do not.
+    // A file opens without the lock if its slot has words for look-ups, and not otherwise.
     (b"/c", Step::Opens(Want::BOTH, true, None)),
     (b"/g/r", Step::Opens(Want::READ, true, None)),
     (b"/unknown", Step::Opens(Want::READ, false, None)),
@@ -50,7 +50,7 @@ static STEPS: [(&[u8], Step<'static>); 72] = [
         b"/owner_writes",
         Step::Opens(Want::READ, false, Some(Refusal::Access)),
     ),
-    // What is opened is the file of the whole path, with the lock (of the long ones) and without it.
+    // What is opened is the file of the whole path, with the lock (for long names) and without it.
     (b"/n", Step::OpensAndShows(b"5\n")),
     (b"/s", Step::OpensAndShows(b"-1\n")),
     (
@@ -61,7 +61,7 @@ static STEPS: [(&[u8], Step<'static>); 72] = [
         b"/temperature_of_the_first_coil",
         Step::OpensAndShows(b"2\n"),
     ),
-    // One read is one show, and one write is one store, also after a fault.
+    // One read is one show, and one write is one store, even after a fault.
     (b"/c", Step::Shows(Ok(b"0000"))),
     (b"/c", Step::Shows(Ok(b"0001"))),
     (b"/c", Step::Shows(Err(OWN))),
@@ -83,7 +83,7 @@ static STEPS: [(&[u8], Step<'static>); 72] = [
     (b"/c", Step::Shows(Ok(b"0c06"))),
     (b"/unknown", Step::Shows(Err(INVALID))),
     (b"/unknown", Step::Stores(b"1", Err(INVALID))),
-    // What was stored last is shown.
+    // A show gives what was stored last.
     (b"/n", Step::Shows(Ok(b"5\n"))),
     (b"/n", Step::Stores(b"18446744073709551615\n", Ok(21))),
     (b"/n", Step::Shows(Ok(b"18446744073709551615\n"))),
@@ -107,7 +107,7 @@ static STEPS: [(&[u8], Step<'static>); 72] = [
     (b"/w", Step::Shows(Ok(b"1\n"))),
     (b"/w", Step::Stores(b"False\n", Ok(6))),
     (b"/w", Step::Shows(Ok(b"0\n"))),
-    // A store that raises the event number of its file is seen by a poll, and so is a notify by the name.
+    // A poll sees a store that raises the event number of its file, and sees a notify by name, too.
     (b"/v", Step::Tells(b"1", b"/w")),
     (b"/v", Step::Tells(b"1", b"/n")),
     (b"/v", Step::Tells(b"1", b"/s")),
@@ -142,7 +142,7 @@ static WITHOUT_LOOKS: [(&[u8], Step<'static>); 5] = [
     ),
 ];
 
-/// Its slots are 1 and 2.
+/// A group whose nodes have the slots 1 and 2.
 const GROUP: Group<'static> = Group {
     name: Some(b"g"),
     attributes: &[attribute!(b"r", 0o444, 10)],
@@ -156,7 +156,7 @@ fn plant_group<N: Naming, R: Wait>(rt: &R, tree: &SharedTree<N>) -> Result<(), R
     Ok(())
 }
 
-/// Makes files without rows. Their slots are 10 to 12.
+/// Makes files that have no row. Their slots are 10 to 12.
 fn plant_others<N: Naming, R: Wait>(rt: &R, tree: &SharedTree<N>) -> Result<(), Refusal> {
     let others = [
         Attribute::read_write(b"unknown", 7),
@@ -169,7 +169,7 @@ fn plant_others<N: Naming, R: Wait>(rt: &R, tree: &SharedTree<N>) -> Result<(), 
     Ok(())
 }
 
-/// Makes all files: the slots of the table's are 3 to 9.
+/// Makes all files. Those of the table have the slots 3 to 9.
 fn plant<N: Naming, T: Rows, R: Wait>(rt: &R, tree: &SharedTree<N>, rows: &T) -> Result<(), Refusal>
     requires few { length (T.attributes rows.now) ≤ 64 }
 {
@@ -191,7 +191,7 @@ fn post_of_v<N: Naming, R: Wait>(
     post_of(reader.state(), posts, reader.state().root(), b"v")
 }
 
-/// Makes the files and walks the steps. The stores of the switch `v` raise its event number.
+/// Makes the files and takes the steps. Each store to the switch `v` raises its event number.
 fn answer<N: Naming, R: Abort + Wait>(
     rt: &R,
     tree: &SharedTree<N>,

@@ -1,4 +1,4 @@
-//! The tree that the tests begin with.
+//! The tree with which the tests begin.
 
 ghost use Rattle.std.specs.Prelude.{◌≤◌};
 
@@ -8,12 +8,12 @@ use std::alloc::Global;
 use std::marker::Brand;
 use std::process::Abort;
 
-/// A tree of `slots` slots with at most `holds` holds each, and with words for the look-ups of eight slots.
+/// A tree with `slots` slots, with at most `holds` holds of each, and with words for look-ups in eight slots.
 pub(crate) fn made<R: Abort>(rt: &R, alloc: Global, slots: u32, holds: u32) -> NewTree {
     made_with(rt, alloc, slots, holds, 8)
 }
 
-/// The same with words for the look-ups of `looks` slots.
+/// The same tree, but with words for look-ups in `looks` slots.
 ///
 /// Condition: `looks` is at most 8.
 pub(crate) fn made_with<R: Abort>(

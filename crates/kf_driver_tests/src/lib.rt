@@ -1,5 +1,6 @@
 //! The tests of `kf_text`, `kf_groups`, `kf_uevents` and `kf_driver`, of `kf_notify`, `kf_files` and
-//! `kf_device`, and of `kf_workers`, over their public calls: proved over them, and not with them.
+//! `kf_device`, and of `kf_workers`. They use only the public calls of these crates, and are proved on top of
+//! the crates, not together with them.
 #![tactic(auto)]
 
 #[cfg(test)]

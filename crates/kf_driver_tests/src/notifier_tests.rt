@@ -1,4 +1,4 @@
-//! When a callback that notifies raises its number: after its store, and only if that succeeded.
+//! When a callback that notifies raises its event number: after its store, and only if the store succeeded.
 
 use kf_core::Refusal;
 use kf_driver::{Notifying, Store};
@@ -7,7 +7,7 @@ use kf_notify::{Post, Posts};
 use std::sync::atomic::{AtomicU64, Ordering};
 use std::sync::{Mutex, Wait};
 
-/// Keeps the event number that its post finds during a store. It refuses an empty line.
+/// A callback that keeps the event number that its post finds during a store. It refuses an empty line.
 #[derive(Drop)]
 struct Looking<'a, R> {
     rt: &'a R,

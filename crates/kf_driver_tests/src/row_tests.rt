@@ -1,5 +1,5 @@
 //! Tables that make the files of their attributes: which row serves which file, what a row without a show or
-//! without a store refuses, and what a refused table leaves.
+//! without a store refuses, and what a refused table leaves behind.
 ghost use Rattle.std.specs.Prelude.{◌≡◌};
 
 use crate::fixtures::made_with;
@@ -26,14 +26,15 @@ const Y: Attribute<'static> = attribute!(b"y", 0o444);
 
 const LINES: [&[u8]; 2] = [b"line0", b"line1"];
 
-/// The mode of a constant that a macro made, which the checker knows.
+/// The mode of a constant that a macro made. The checker knows this mode.
 fn mode() -> u16
     ensures known { result ≡ 292 }
 {
     LIMIT.mode
 }
 
-/// Slots 1 to 3 are the files of the first table; 4 to 6 and 7 to 9 the lines with their files.
+/// The files of the first table have the slots 1 to 3. The two lines, each with its files, have the slots 4
+/// to 6 and 7 to 9.
 static STEPS: [(&[u8], Step<'static>); 12] = [
     // Each file is served by its own row, whatever tag its attribute had.
     (b"/limit", Step::OpensAndShows(b"7\n")),
@@ -42,7 +43,7 @@ static STEPS: [(&[u8], Step<'static>); 12] = [
     (b"/line0/y", Step::OpensAndShows(b"11\n")),
     (b"/line1/x", Step::OpensAndShows(b"20\n")),
     (b"/line1/y", Step::OpensAndShows(b"21\n")),
-    // What is only read is not opened for a store, and what is only written not for a show.
+    // What is only read does not open for writing, and what is only written does not open for reading.
     (
         b"/limit",
         Step::Opens(Want::WRITE, false, Some(Refusal::Access)),
@@ -52,7 +53,7 @@ static STEPS: [(&[u8], Step<'static>); 12] = [
         Step::Opens(Want::READ, false, Some(Refusal::Access)),
     ),
     (b"/reset", Step::Opens(Want::WRITE, true, None)),
-    // A row that is not visible has no file, and neither has a table that was refused.
+    // A row that is not visible has no file, and a refused table has none either.
     (
         b"/hidden",
         Step::Opens(Want::READ, false, Some(Refusal::NoEntry)),
@@ -67,11 +68,11 @@ static STEPS: [(&[u8], Step<'static>); 12] = [
     ),
 ];
 
-/// A row of the number that a store wrote.
+/// The row of the number shows what a store wrote.
 static AFTER: [(&[u8], Step<'static>); 1] = [(b"/limit", Step::OpensAndShows(b"9\n"))];
 
-/// Whether a table is refused, with this refusal, if a later row has the name of an earlier one or of a file
-/// that is there.
+/// Whether a table is refused with Exists if a later row has the name of an earlier row, or of a file that is
+/// already there.
 fn are_refused<N: Naming, R: Wait>(rt: &R, tree: &SharedTree<N>) -> bool {
     let twice = rows! {
         Row(attribute!(b"one", 0o444), ReadOnly(Number::new(0, 9))),
@@ -86,7 +87,7 @@ fn are_refused<N: Naming, R: Wait>(rt: &R, tree: &SharedTree<N>) -> bool {
         && create_rows(&mut editor, root, None, &again).err() == Some(Refusal::Exists)
 }
 
-/// Opens the files of this driver and walks the steps.
+/// Opens the files of this driver and takes the steps.
 fn serves<N: Naming, T: DriverTable, R: Abort + Wait>(
     rt: &R,
     alloc: Global,

@@ -1,5 +1,5 @@
-//! Steps with files one after another, each opened by its path, and what each step must find. The calls of a
-//! step are proved once, however many steps there are.
+//! Steps with files, one after another. Each step opens a file by its path, and says what it must find. The
+//! calls of a step are proved only once, however many steps there are.
 
 use kf_core::Refusal;
 use kf_driver::{Driver, DriverTable, Opener, notify, open_path};
@@ -11,7 +11,7 @@ use std::sync::Wait;
 
 #[derive(Clone, Copy)]
 pub(crate) enum Step<'a> {
-    /// Whether the file opens for this use without the lock, and why it does not open at all.
+    /// Whether the file opens for this use without the lock, and the refusal if it does not open at all.
     Opens(Want, bool, Option<Refusal>),
     /// The file that the opener opens shows this text.
     OpensAndShows(&'a [u8]),
@@ -19,15 +19,16 @@ pub(crate) enum Step<'a> {
     Shows(Result<&'a [u8], FileError>),
     /// What a write of this text returns.
     Stores(&'a [u8], Result<usize, FileError>),
-    /// A write of this text is seen by a poll of the file, and not by a poll of the file at the other path.
+    /// A poll of the file sees a write of this text, and a poll of the file at the other path does not.
     Tells(&'a [u8], &'a [u8]),
     /// A write of this text is refused, and no poll of either file sees it.
     Refuses(&'a [u8], &'a [u8]),
-    /// The same of three notifies by this name in the root's directory.
+    /// Three notifies by this name in the root directory: a poll of the file sees them, and a poll of the
+    /// file at the other path does not.
     Notifies(&'a [u8], &'a [u8]),
 }
 
-/// Opens the file without the lock and closes it, and does both again, with the lock if need be.
+/// Opens the file without the lock and closes it. Then does both once more, with the lock if necessary.
 fn opens<N: Naming, R: Wait>(
     rt: &R,
     tree: &SharedTree<N>,
@@ -49,7 +50,7 @@ fn opens<N: Naming, R: Wait>(
     }
 }
 
-/// Whether the opener opens the file, and what it opened shows this text.
+/// Whether the opener opens the file, and the file shows this text.
 fn opens_and_shows<N: Naming, T: DriverTable, R: Wait>(
     rt: &R,
     tree: &SharedTree<N>,
@@ -109,8 +110,8 @@ fn notifies<N: Naming, R: Wait>(
     true
 }
 
-/// Shows both files and takes the step. Returns whether the first has changed since, if it is to, and the
-/// other has not.
+/// Reads both files and takes the step. Returns whether polls then find the first file changed if the step is
+/// to change it, and the other file unchanged.
 fn is_polled<N: Naming, T: DriverTable, R: Wait>(
     rt: &R,
     tree: &SharedTree<N>,
@@ -152,7 +153,7 @@ fn is_right<N: Naming, T: DriverTable, R: Wait>(
     }
 }
 
-/// Takes the steps. The first that does not find what it must stops the test.
+/// Takes the steps. The first step that does not find what it must find stops the test.
 pub(crate) fn walk<N: Naming, T: DriverTable, R: Abort + Wait>(
     rt: &R,
     tree: &SharedTree<N>,

@@ -16,7 +16,7 @@ abbrev pub refusal_of : {Hold : Type 0} → Result (Opened Hold) (Hold × PostSt
 refusal_of (Ok file) = None
 refusal_of (Err back) = Some back.2
 
--- the hold after an open: in the file, or given back
+-- the hold after an open: in the file, or returned after a refusal
 abbrev pub hold_after : {Hold : Type 0} → Result (Opened Hold) (Hold × PostState × Refusal) → Hold
 hold_after (Ok file) = file.hold
 hold_after (Err back) = back.0
@@ -27,7 +27,7 @@ abbrev pub paged_refusal : {Hold Page : Type 0}
 paged_refusal (Ok file) = None
 paged_refusal (Err back) = Some back.3
 
--- the hold after an open with a page that the caller lends: in the file, or given back
+-- the hold after an open with a page that the caller lends: in the file, or returned after a refusal
 abbrev pub paged_after : {Hold Page : Type 0}
     → Result (Opened Hold) (Hold × PostState × Page × Refusal) → Hold
 paged_after (Ok file) = file.hold

@@ -1,17 +1,19 @@
-//! Open files of attributes: pages, the callbacks that show and store, and when a file has changed.
+//! Open files of attributes: their pages, the callbacks that show and store, and how to wait for a change.
 //!
-//! - `WaitingFile` is a file over the words, for many threads: `open`, `read`, `write`, `poll`,
-//!   `wait_changed` (`wait_changed_for` with a limit of time), and `read_at`, `write_at` of binary
-//!   attributes. Its callbacks are yours: a type with `WaitOps` (`WaitBinaryOps`), which is lent the tree and
-//!   the runtime, and returns bytes or a `Fault`.
-//! - `OpenFile` is the same over any `Guard`, for one owner, and `HeldFile` both without its event numbers.
+//! - `WaitingFile` is a file over the words, for many threads. It has `open`, `read`, `write`, `poll`,
+//!   `wait_changed` (`wait_changed_for` with a time limit) and, for binary attributes, `read_at` and
+//!   `write_at`. You write its callbacks: a type with `WaitOps` (or `WaitBinaryOps`). They borrow the tree
+//!   and the runtime, and return bytes or a `Fault`.
+//! - `OpenFile` is the same over any `Guard`, for one owner. `HeldFile` is an `OpenFile` without its own
+//!   event numbers.
 //! - `Contents` is what a file keeps, for a program that makes each show in two halves.
-//! - A `Page` is 4,096 bytes; a program that opens many files lends its own pages (`PageHolder`).
-//! - `remove_and_tell`, `hide_and_tell` remove or hide, and raise the numbers of what they marked, so that
-//!   sleepers end.
+//! - A `Page` has 4,096 bytes. A program that opens many files can lend its own pages (`PageHolder`).
+//! - `remove_and_tell` removes nodes and `hide_and_tell` hides a file. Both raise the event numbers of what
+//!   they removed or hid, so that threads that sleep there wake.
 //!
-//! A caller that opens shows that the hold is of the tree, and that node and event counter are of its key.
-//! No callback runs except in a call that began in that very read or write.
+//! A caller that opens a file must prove that the hold is of the tree, that the node is the hold's, and that
+//! the event counter is that of its slot. A callback runs only in a call that began in that very read or
+//! write.
 #![tactic(auto)]
 
 mod open_file;

@@ -1,4 +1,4 @@
-//! A file opened by a hold on its node, with a post of its slot.
+//! A file opened with a hold of its node, with a post of its slot.
 
 ghost use Rattle.std.specs.Prelude.{◌≡◌, ◌≤◌, length, IfOk, MatchResult};
 ghost use Rattle.kf_core.specs.Calls.{Visits};
@@ -15,8 +15,8 @@ use std::marker::Model;
 use std::sync::Wait;
 use std::time::Duration;
 
-/// A file opened by a hold on its node (`struct kernfs_open_file`). It keeps the hold and a post of its slot
-/// until it is closed, and its page, which is part of it or was lent.
+/// A file opened with a hold of its node (`struct kernfs_open_file`). Until it is closed it keeps the hold, a
+/// post of its slot, and its page, which is part of it or was lent.
 #[derive(Drop)]
 pub struct OpenFile<G: Guard, P: PageHolder = Page> {
     file: HeldFile<G, P>,
@@ -39,11 +39,11 @@ impl<G: Guard, P: PageHolder> Model for OpenFile<G, P> {
 impl<G: Guard> OpenFile<G> {
     /// Opens a file whose node is live (`kernfs_fop_open`). It starts with no text and the event number 0.
     ///
-    /// Condition: the hold may try, as each call of a guard ensures of a hold that it gives back.
+    /// Condition: the hold may try, which each function of a guard ensures of a hold that it returns.
     ///
-    /// Refusals, in order: `IsDir` a directory, `Invalid` a link, `NoDevice` a node that is not live,
-    /// `Access` reading if the mode has no bit of 0o444, or writing if it has none of 0o222.
-    /// A refusal gives the hold and the post back.
+    /// Refusals, in order: `IsDir` for a directory, `Invalid` for a link, `NoDevice` if the node is not live,
+    /// `Access` if the mode forbids what was asked for. (The mode forbids reading if it has no bit of 0o444,
+    /// and writing if it has no bit of 0o222.) After a refusal the hold and the post are returned.
     pub fn open(
         guard: &mut G,
         hold: G::Hold,
@@ -67,7 +67,7 @@ impl<G: Guard> OpenFile<G> {
         }
     }
 
-    /// Gives the hold and the post back (`kernfs_fop_release`).
+    /// Closes the file, and returns its hold and its post (`kernfs_fop_release`).
     pub fn close(self) -> (G::Hold, Post)
         ensures hold { result.0 ≡ self.hold }
         ensures post { result.1 ≡ self.post }
@@ -78,8 +78,8 @@ impl<G: Guard> OpenFile<G> {
 }
 
 impl<G: Guard, P: PageHolder> OpenFile<G, P> {
-    /// As [`OpenFile::open`], on a page that the caller lends, whose bytes do not matter. A refusal gives
-    /// the page back too.
+    /// Like [`OpenFile::open`], but on a page that the caller lends. The bytes of this page do not matter.
+    /// After a refusal the page is returned too.
     ///
     /// Condition: the hold may try in this state of the guard.
     ///
@@ -111,16 +111,16 @@ impl<G: Guard, P: PageHolder> OpenFile<G, P> {
         }
     }
 
-    /// Reads the text from the offset on, in bytes, into the front of `out`, and returns how many bytes that
-    /// are (`kernfs_fop_read_iter`). At offset 0, and if no text is buffered, the text is shown anew under
-    /// a call, after its event number was taken. Else it is the buffered text, which needs no live node and
-    /// takes no number.
+    /// Reads the text from the offset on, in bytes, into the front of `out`, and returns how many bytes it
+    /// put there (`kernfs_fop_read_iter`). At offset 0, or if no text is buffered, the text is shown anew
+    /// under a call, after its event number was taken. Otherwise it is the buffered text: the node need not
+    /// be live, and no number is taken.
     ///
-    /// Condition: the file's hold may try, as it may after `open` and after each call here.
+    /// Condition: the file's hold may try, which `open` and each function here ensure.
     ///
-    /// Refusals, in order: `Access` if the file was not opened for reading, `NoDevice` if the node is
-    /// not live; both change nothing. A fault of show is returned as `Callback`, and leaves no text. The rest
-    /// of `out` stays, and all of it after an error.
+    /// Refusals, in order: `Access` if the file was not opened for reading, `NoDevice` if the node is not
+    /// live. Both change nothing. A fault of the show is returned as `Callback`, and leaves no buffered text.
+    /// The rest of `out` stays as it was, and after an error all of `out` does.
     pub fn read<O: Ops<G::Call>>(
         &mut self,
         guard: &mut G,
@@ -144,11 +144,11 @@ impl<G: Guard, P: PageHolder> OpenFile<G, P> {
         self.file.read(guard, ops, &mut self.post, offset, out)
     }
 
-    /// Hands the first 4,096 bytes to one store under a call, and returns what it returns, a fault as
-    /// `Callback` (`kernfs_fop_write_iter`). A write of no bytes returns 0 and calls nothing, but it needs a
-    /// live node too. The file stays as it was.
+    /// Passes the first 4,096 bytes to one store under a call, and returns what the store returns, a fault as
+    /// `Callback` (`kernfs_fop_write_iter`). A write of no bytes returns 0 and calls no store, but it too
+    /// needs a live node. The file stays as it was.
     ///
-    /// Condition: the file's hold may try, as it may after `open` and after each call here.
+    /// Condition: the file's hold may try, which `open` and each function here ensure.
     ///
     /// Refusals, in order: `Access` if the file was not opened for writing, `NoDevice` if the node is
     /// not live.
@@ -172,10 +172,10 @@ impl<G: Guard, P: PageHolder> OpenFile<G, P> {
 
     /// Reads bytes of a binary attribute from the offset on, as [`HeldFile::read_at`] does.
     ///
-    /// Condition: the file's hold may try, as it may after `open` and after each call here.
+    /// Condition: the file's hold may try, which `open` and each function here ensure.
     ///
-    /// Refusals, in order: `Access` if the file was not opened for reading, `NoDevice` if the node is
-    /// not live; both change nothing.
+    /// Refusals, in order: `Access` if the file was not opened for reading, `NoDevice` if the node is not
+    /// live. Both change nothing.
     pub fn read_at<B: BinaryOps<G::Call>>(
         &mut self,
         guard: &mut G,
@@ -201,7 +201,7 @@ impl<G: Guard, P: PageHolder> OpenFile<G, P> {
 
     /// Writes all the bytes of a binary attribute at the offset, as [`HeldFile::write_at`] does.
     ///
-    /// Condition: the file's hold may try, as it may after `open` and after each call here.
+    /// Condition: the file's hold may try, which `open` and each function here ensure.
     ///
     /// Refusals, in order: `Access` if the file was not opened for writing, `NoDevice` if the node is
     /// not live.
@@ -225,11 +225,12 @@ impl<G: Guard, P: PageHolder> OpenFile<G, P> {
         self.file.write_at(guard, ops, offset, bytes)
     }
 
-    /// Whether the file has changed since its last show (`kernfs_fop_poll`): the slot's event number, taken
-    /// under a call, is another, or the node is not live. A file that was never shown has the number 0, so it
-    /// has changed where numbers begin at 1 or more. The number that the file keeps stays.
+    /// Whether the file has changed since its last show or binary read (`kernfs_fop_poll`): the slot's event
+    /// number, taken under a call, differs from the one that the file keeps, or the node is not live. Before
+    /// its first show or binary read a file has the number 0, so it has changed if numbers begin at 1 or
+    /// more. The number that the file keeps does not change.
     ///
-    /// Condition: the file's hold may try, as it may after `open` and after each call here.
+    /// Condition: the file's hold may try, which `open` and each function here ensure.
     pub fn poll(&mut self, guard: &mut G) -> bool
         requires may_enter { G.may_enter guard.old self.old.hold }
         ensures polls { Polls
@@ -243,23 +244,23 @@ impl<G: Guard, P: PageHolder> OpenFile<G, P> {
         self.file.poll(guard, &mut self.post)
     }
 
-    /// Sleeps while the slot's event number is that of the last show, until a notify of the slot, and may
-    /// return for no reason: no clause says why it did. It makes no try: nobody waits for a thread that
-    /// sleeps here.
+    /// Sleeps while the slot's event number is the one that the file keeps: until a notify of the slot. It
+    /// may also return for no reason, so no clause says why it returned. It makes no try, so nobody waits for
+    /// a thread that sleeps here.
     ///
     /// Context: sleeps; takes no lock.
     pub fn rest<R: Wait>(&self, rt: &R) {
         self.post.as_post().rest(rt, self.file.number());
     }
 
-    /// As [`OpenFile::rest`], for this long at most.
+    /// Like [`OpenFile::rest`], but sleeps at most this long.
     ///
     /// Context: sleeps; takes no lock.
     pub fn rest_for<R: Wait>(&self, rt: &R, limit: Duration) {
         self.post.as_post().rest_for(rt, self.file.number(), limit);
     }
 
-    /// Gives the hold, the post and the page back (`kernfs_fop_release`).
+    /// Closes the file, and returns its hold, its post and its page (`kernfs_fop_release`).
     pub fn into_parts(self) -> (G::Hold, Post, P)
         ensures hold { result.0 ≡ self.hold }
         ensures post { result.1 ≡ self.post }

@@ -7,7 +7,7 @@ use kf_notify::Post;
 use kf_pages::EventNumbers;
 use std::marker::Model;
 
-/// A post, as what a file takes its event numbers from.
+/// A post from which a file takes its event numbers.
 #[derive(Drop)]
 pub(crate) struct OwnPost {
     post: Post,
@@ -22,21 +22,21 @@ impl Model for OwnPost {
 }
 
 impl OwnPost {
-    /// The same post.
+    /// Wraps a post.
     pub(crate) fn new(post: Post) -> OwnPost
         ensures same { result ≡ post }
     {
         OwnPost { post }
     }
 
-    /// The same post.
+    /// The post itself.
     pub(crate) fn as_post(&self) -> &Post
         ensures same { result.now ≡ self.now }
     {
         &self.post
     }
 
-    /// The same post.
+    /// The post itself.
     pub(crate) fn into_post(self) -> Post
         ensures same { result ≡ self }
     {

@@ -1,12 +1,12 @@
 //! Removals and hidings that wake the threads that wait for a file to change.
 //!
 //! A thread that waits has tried, found no change, and sleeps on its slot's event number. A removal marks its
-//! nodes, and then raises the number of each, which wakes the sleepers. A bare wake would not do: a thread
-//! that had tried and was not yet asleep would miss it. Nor would a raise before the mark: a thread that it
-//! wakes may try before the mark, and sleep again. The same holds for a hiding.
+//! nodes, and then raises the number of each, which wakes the sleepers. A wake without a raise would not be
+//! enough: a thread that had tried and was not yet asleep would miss it. Nor would a raise before the mark: a
+//! thread that it wakes could try before the mark, and sleep again. The same is true of a hiding.
 //!
-//! Each raise is a step of the one run of the event numbers, after all that the handle had seen: so clauses
-//! say which numbers were raised. No clause says that they were raised after the marks.
+//! Each raise is a step in the one run of the event numbers, after all that the handle had seen. So clauses
+//! can say which numbers were raised. No clause says that they were raised after the marks.
 ghost use Rattle.std.specs.Prelude.{◌≡◌, [], ◌∷◌, true, None, IfErr, IfOk, OnErr, OnOk};
 ghost use Rattle.kf_core.specs.declared.caller.Phase.TheVariants as phase_of;
 ghost use Rattle.kf_core.specs.declared.command.Command.TheVariants.{Hide};
@@ -46,9 +46,10 @@ fn tell_each(posts: &mut Posts, holds: &[Hold])
     }
 }
 
-/// Raises the event number of each slot whose node the removal has marked, and so wakes the threads that wait
-/// for a file there to change: each finds its node gone. Call it after `begin_removal`, `begin_removal_of` or
-/// `begin_self_removal`, and before [`Editor::end_removal`] or [`Removing::finish`]. It takes no memory.
+/// Raises the event number of each slot whose node the removal has marked. This wakes the threads that wait
+/// for a file there to change: each finds that its node is not live. Call it after `begin_removal`,
+/// `begin_removal_of` or `begin_self_removal`, and before [`Editor::end_removal`] or [`Removing::finish`]. It
+/// allocates nothing.
 pub fn tell_removed<N: Naming>(posts: &mut Posts, removing: &Removing<N>)
     ensures told { WereTold posts.old (keys_of removing.now) posts.new }
     ensures posts { id_of posts.new ≡ id_of posts.old }
@@ -56,8 +57,8 @@ pub fn tell_removed<N: Naming>(posts: &mut Posts, removing: &Removing<N>)
     tell_each(posts, removing.holds());
 }
 
-/// Raises the event number of the file that is being hidden, and so wakes the threads that wait for it to
-/// change: each finds that it is not live. It takes no memory.
+/// Raises the event number of the file that is being hidden. This wakes the threads that wait for the file to
+/// change: each finds that it is not live. It allocates nothing.
 pub fn tell_hidden(posts: &mut Posts, hiding: &Hiding)
     ensures told { WasTold posts.old hiding.now.key.slot posts.new }
     ensures posts { id_of posts.new ≡ id_of posts.old }
@@ -65,15 +66,16 @@ pub fn tell_hidden(posts: &mut Posts, hiding: &Hiding)
     tell(posts, hiding.key().slot);
 }
 
-/// Removes the node of a key with all below it, as [`Editor::remove_key`] does, and wakes the threads that
-/// wait for a change of a file there: once all are marked, and before the tree is unlocked. The receipts are
-/// in post-order, the node's own last. That has seen that the doom, and the unlinks of the first of the nodes
-/// in their order, are all that came before the lock was released.
+/// Removes the node of a key and all nodes below it, as [`Editor::remove_key`] does, and wakes the threads
+/// that wait for a file there to change. It wakes them once all nodes are marked, and before the tree is
+/// unlocked. The receipts are in post-order, the node's own last. This last receipt has seen that the doom,
+/// and the unlinks of the first nodes in this order, if any, are all that was done before the lock was
+/// released.
 ///
 /// Refusals: those of [`Editor::begin_removal_of`]. After a refusal nothing is marked, and the tree is
 /// unlocked.
 ///
-/// Context: as [`Editor::remove_key`].
+/// Context: that of [`Editor::remove_key`].
 pub fn remove_and_tell<N: Naming, R: Wait>(
     editor: Editor<'_, N>,
     rt: &R,
@@ -96,15 +98,15 @@ pub fn remove_and_tell<N: Naming, R: Wait>(
     Ok(draining.finish(rt))
 }
 
-/// Hides a file, as [`Editor::hide_and_wait`] does, and wakes the threads that wait for it to change: once it
-/// is hidden and the tree is unlocked, and before it waits for its callers. The token has seen that the
-/// hiding is all that came before the lock was released.
+/// Hides a file, as [`Editor::hide_and_wait`] does, and wakes the threads that wait for the file to change.
+/// It wakes them once the file is hidden and the tree is unlocked, and then waits for the file's callers. The
+/// token has seen that the hiding is all that was done before the lock was released.
 ///
-/// Condition: the hold is of this table.
+/// Condition: the hold is of this tree's table.
 ///
 /// Refusals: those of [`Editor::hide`]. After a refusal the tree is as before, and unlocked.
 ///
-/// Context: sleeps, once it has unlocked.
+/// Context: sleeps, after it has unlocked the tree.
 pub fn hide_and_tell<N: Naming, R: Wait>(
     editor: Editor<'_, N>,
     rt: &R,

@@ -1,4 +1,4 @@
-//! Holds and calls of one shared tree, as a guard: their type says of which table of words they are.
+//! Holds and calls of one shared tree, as a guard. Their type says to which table of words they belong.
 
 ghost use Rattle.std.specs.Prelude.{◌≡◌, true};
 
@@ -7,7 +7,7 @@ use kf_shared::Naming;
 use kf_words::{Call, Hold};
 use std::marker::{Model, PhantomData};
 
-/// A hold of the tree of this name.
+/// A hold of the tree with this name.
 pub(crate) struct TreeHold<N: Naming> {
     hold: Hold,
     name: PhantomData<N>,
@@ -25,7 +25,7 @@ impl<N: Naming> Model for TreeHold<N> {
 }
 
 impl<N: Naming> TreeHold<N> {
-    /// The same hold.
+    /// Wraps a hold of this tree's table.
     pub(crate) fn new(hold: Hold) -> TreeHold<N>
         requires table { hold.table ≡ N.table }
         ensures same { result ≡ hold }
@@ -36,7 +36,7 @@ impl<N: Naming> TreeHold<N> {
         }
     }
 
-    /// The same hold, and its table.
+    /// The same hold, which is of this tree's table.
     pub(crate) fn into_hold(self) -> Hold
         ensures same { result ≡ self }
         ensures table { result.table ≡ N.table }
@@ -46,7 +46,7 @@ impl<N: Naming> TreeHold<N> {
     }
 }
 
-/// A call of the tree of this name.
+/// A call of the tree with this name.
 pub(crate) struct TreeCall<N: Naming> {
     pub(crate) call: Call,
     name: PhantomData<N>,
@@ -80,7 +80,8 @@ impl<N: Naming> ActiveCall for TreeCall<N> {
     }
 }
 
-/// The holds and calls of the tree of this name. It keeps nothing: each has its own seat.
+/// The guard for the holds and calls of the tree with this name. It keeps nothing, since each hold and each
+/// call has its own seat.
 #[derive(Drop)]
 pub(crate) struct TreeSeats<N: Naming> {
     name: PhantomData<N>,

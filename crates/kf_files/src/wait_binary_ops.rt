@@ -1,4 +1,5 @@
-//! The callbacks of binary attributes that may wait: bytes at an offset, of any number, with no page.
+//! The callbacks of binary attributes, which may wait. They read and write any number of bytes at an offset,
+//! without a page.
 
 ghost use Rattle.std.specs.Prelude.{◌≡◌, ◌<◌, ◌≤◌, ℕ, List, Result, IfOk, length, true};
 ghost use Rattle.kf_core.specs.Phases.{has_reference};
@@ -12,20 +13,21 @@ use kf_shared::{Naming, SharedTree};
 use kf_words::Call;
 use std::sync::Wait;
 
-/// The callbacks of binary attributes of the shared tree of this name, beside [`crate::WaitOps`]: any
-/// number of threads may call them at once, with no lock held, and they may wait. A read or a write is made
-/// only under a running call, which it is lent, and which it gives back with a reference.
+/// The callbacks of binary attributes of the shared tree with this name, in addition to [`crate::WaitOps`].
+/// Any number of threads may call them at once, with no lock held, and they may wait. A read or a write runs
+/// only under a running call, which it borrows. When it returns, the call has a reference.
 ///
-/// Conditions of each: the call is Running, and of the table of the tree.
+/// Conditions of each: the call is Running, and belongs to the tree's table.
 pub trait WaitBinaryOps<N: Naming> {
-    /// A read for this tag at this offset, into this much room, may give these bytes, or this fault.
+    /// A read for this tag at this offset, into room for this many bytes, may return these bytes, or this
+    /// fault.
     ghost may_read_at: { Self → ℕ → ℕ → ℕ → Result (List ℕ) Fault → Type 0 };
 
     /// A write for this tag at this offset of these bytes may return this.
     ghost may_write_at: { Self → ℕ → ℕ → List ℕ → Result ℕ Fault → Type 0 };
 
-    /// Puts the bytes from the offset on into the front of `out`, in which there is room for one or more, and
-    /// returns how many those are, 0 past the end; or gives a fault.
+    /// Puts the bytes from the offset on into the front of `out`, which has room for at least one. It returns
+    /// how many bytes it put there, 0 past the end, or fails with a fault.
     fn read_at<R: Wait>(
         &self,
         rt: &R,
@@ -43,8 +45,8 @@ pub trait WaitBinaryOps<N: Naming> {
         ensures seat { IsSameSeat call.old call.new }
         ensures reference { has_reference call.new.phase ≡ true };
 
-    /// Takes the bytes at the offset, one or more, and returns how many it took from their front, or gives a
-    /// fault.
+    /// Writes the bytes, at least one, at the offset. It returns how many it took from their front, or fails
+    /// with a fault.
     fn write_at<R: Wait>(
         &self,
         rt: &R,

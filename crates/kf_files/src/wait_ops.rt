@@ -12,23 +12,24 @@ use kf_shared::{Naming, SharedTree};
 use kf_words::Call;
 use std::sync::Wait;
 
-/// The callbacks of files of the shared tree of this name (`struct sysfs_ops`). Any number of threads may
-/// call them at once, with no lock held, so a callback may take the lock of its tree and may wait. A file's
-/// tag tells it from others. What serves only one tree may keep holds, event counters and keys of it.
+/// The callbacks of files of the shared tree with this name (`struct sysfs_ops`). Any number of threads may
+/// call them at once, with no lock held, so a callback may take the lock of its tree and may wait. A file is
+/// identified by its tag. Callbacks that serve only one tree may keep its holds, event counters and keys.
 ///
-/// A show or a store is made only under a running call, which it is lent. It may give up that reference and
-/// take it again, as `remove_self` does, and gives the call back with a reference. A callback that removes
-/// its own node, or one above it, without `remove_self` waits for itself.
+/// A show or a store runs only under a running call, which it borrows. It may give up the call's reference
+/// and take it again, as `remove_self` does. When it returns, the call has a reference. A callback that
+/// removes its own node, or one above it, without `remove_self` waits for itself.
 ///
-/// Conditions of each show and store: the call is Running, and of the table of the tree.
+/// Conditions of each show and store: the call is Running, and belongs to the tree's table.
 pub trait WaitOps<N: Naming> {
-    /// A show for this tag may fill a page with these bytes, or give this fault.
+    /// A show for this tag may fill a page with these bytes, or fail with this fault.
     ghost may_show: { Self → ℕ → Result (List ℕ) Fault → Type 0 };
 
     /// A store of these bytes for this tag may return this.
     ghost may_store: { Self → ℕ → List ℕ → Result ℕ Fault → Type 0 };
 
-    /// Fills the empty page with the text, or gives a fault. What it filled before a fault is not shown.
+    /// Fills the empty page with the text, or fails with a fault. What it put on the page before a fault is
+    /// not shown.
     fn show<R: Wait>(
         &self,
         rt: &R,
@@ -44,7 +45,7 @@ pub trait WaitOps<N: Naming> {
         ensures seat { IsSameSeat call.old call.new }
         ensures reference { has_reference call.new.phase ≡ true };
 
-    /// Takes the bytes, 1 to 4,096 of them, and returns how many it took, or gives a fault.
+    /// Takes the bytes, 1 to 4,096 of them, and returns how many it took, or fails with a fault.
     fn store<R: Wait>(
         &self,
         rt: &R,

@@ -21,7 +21,7 @@ use std::marker::Model;
 use std::sync::Wait;
 use std::time::{Clock, Duration};
 
-/// Waiting callbacks, with the tree and the runtime that they are lent.
+/// Callbacks that may wait, with the tree and the runtime that they borrow.
 #[derive(Drop)]
 struct Lent<'a, W, N: Naming, R: Wait> {
     ops: &'a W,
@@ -79,23 +79,24 @@ impl<'a, W: WaitBinaryOps<N>, N: Naming, R: Wait> BinaryOps<TreeCall<N>> for Len
     }
 }
 
-/// A file of the shared tree of this name, opened by a hold on its node (`struct kernfs_open_file`). It
-/// keeps the hold and a post of its slot until it is closed. Tries and ends take no lock and wait for
-/// nobody: only callbacks get the runtime.
+/// A file of the shared tree with this name, opened with a hold of its node (`struct kernfs_open_file`). It
+/// keeps the hold and a post of its slot until it is closed. A try and the end of a call take no lock and
+/// wait for nobody: only callbacks get the runtime.
 ///
-/// Its page is part of it, or one that it was given: a [`BoxedFile`] has a box that the caller lends, so
-/// none of its 4,096 bytes is moved. A file that is dropped gives its hold back by itself.
+/// Its page is part of it, or was passed in. A [`BoxedFile`] has a box that the caller lends, so the page's
+/// 4,096 bytes are never moved. A file that is dropped releases its hold.
 ///
-/// Its contracts are those of [`OpenFile`], and of each visit to the node they say what the try found: the
-/// key live if it gave a call, and else a word that keeps it out. Of a callback they say what it may
-/// return.
+/// Its contracts are those of [`OpenFile`]. For each visit to the node they also say what the try found: if
+/// the try succeeded, the key was live; if not, it found a word that keeps it out. For a callback they say
+/// what it may return.
 pub struct WaitingFile<N: Naming, P: PageHolder = Page> {
     file: OpenFile<TreeSeats<N>, P>,
-    // Two cache lines between files that lie side by side: threads write to different files at once.
+    // Keeps files that lie side by side two cache lines apart, since threads write to different files at
+    // once.
     apart: [u64; 16],
 }
 
-/// A file whose page lies in a box, which it is given and gives back.
+/// A file whose page is in a box. The caller passes the box in, and gets it back from `into_parts`.
 pub type BoxedFile<N> = WaitingFile<N, Box<PageApart>>;
 
 impl<N: Naming, P: PageHolder> Model for WaitingFile<N, P> {
@@ -112,9 +113,9 @@ impl<N: Naming> WaitingFile<N> {
     ///
     /// Condition: the hold is of this tree's table, the node is the hold's, and the post is of its slot.
     ///
-    /// Refusals, in order: `IsDir` a directory, `Invalid` a link, `NoDevice` a node that is not live,
-    /// `Access` reading if the mode has no bit of 0o444, or writing if it has none of 0o222. A
-    /// refusal gives the hold and the post back.
+    /// Refusals, in order: `IsDir` for a directory, `Invalid` for a link, `NoDevice` if the node is not live,
+    /// `Access` if the mode forbids what was asked for. (The mode forbids reading if it has no bit of 0o444,
+    /// and writing if it has no bit of 0o222.) After a refusal the hold and the post are returned.
     pub fn open(
         hold: Hold,
         node: Node,
@@ -137,7 +138,7 @@ impl<N: Naming> WaitingFile<N> {
         }
     }
 
-    /// Gives the hold and the post back (`kernfs_fop_release`).
+    /// Closes the file, and returns its hold and its post (`kernfs_fop_release`).
     pub fn close(self) -> (Hold, Post)
         ensures hold { result.0 ≡ self.hold }
         ensures post { result.1 ≡ self.post }
@@ -149,8 +150,8 @@ impl<N: Naming> WaitingFile<N> {
 }
 
 impl<N: Naming, P: PageHolder> WaitingFile<N, P> {
-    /// As [`WaitingFile::open`], on a page that the caller lends, whose bytes do not matter. A refusal gives
-    /// the page back too.
+    /// Like [`WaitingFile::open`], but on a page that the caller lends. The bytes of this page do not matter.
+    /// After a refusal the page is returned too.
     ///
     /// Condition: the hold is of this tree's table, the node is the hold's, and the post is of its slot.
     pub fn open_on(
@@ -180,15 +181,17 @@ impl<N: Naming, P: PageHolder> WaitingFile<N, P> {
         }
     }
 
-    /// Reads the text from the offset on, in bytes, into the front of `out`, and returns how many bytes that
-    /// are (`kernfs_fop_read_iter`). At offset 0, and if no text is buffered, the text is shown anew under
-    /// a call, after its event number was taken. Else it is the buffered text, which needs no live node.
+    /// Reads the text from the offset on, in bytes, into the front of `out`, and returns how many bytes it
+    /// put there (`kernfs_fop_read_iter`). At offset 0, or if no text is buffered, the text is shown anew
+    /// under a call, after its event number was taken. Otherwise it is the buffered text, for which the node
+    /// need not be live.
     ///
-    /// Refusals, in order: `Access` if the file was not opened for reading, `NoDevice` if the node is
-    /// not live; both change nothing. A fault of show is returned as `Callback`, and leaves no text. The rest
-    /// of `out` stays, and all of it after an error. It may never return, as its show may not.
+    /// Refusals, in order: `Access` if the file was not opened for reading, `NoDevice` if the node is not
+    /// live. Both change nothing. A fault of the show is returned as `Callback`, and leaves no buffered text.
+    /// The rest of `out` stays as it was, and after an error all of `out` does. It may never return, since
+    /// its show may never return.
     ///
-    /// Context: no lock, and no sleep but its callback's.
+    /// Context: takes no lock, and sleeps only if its callback does.
     pub fn read<W: WaitOps<N>, R: Wait>(
         &mut self,
         rt: &R,
@@ -212,14 +215,14 @@ impl<N: Naming, P: PageHolder> WaitingFile<N, P> {
             .read(&mut TreeSeats::new(), &mut shows, offset, out)
     }
 
-    /// Hands the first 4,096 bytes to one store under a call, and returns what it returns, a fault as
-    /// `Callback` (`kernfs_fop_write_iter`). A write of no bytes returns 0 and calls nothing, but it needs a
-    /// live node too.
+    /// Passes the first 4,096 bytes to one store under a call, and returns what the store returns, a fault as
+    /// `Callback` (`kernfs_fop_write_iter`). A write of no bytes returns 0 and calls no store, but it too
+    /// needs a live node.
     ///
-    /// Refusals, in order: `Access` if the file was not opened for writing, `NoDevice` if the node is
-    /// not live. The file stays as it was. It may never return, as its store may not.
+    /// Refusals, in order: `Access` if the file was not opened for writing, `NoDevice` if the node is not
+    /// live. The file stays as it was. It may never return, since its store may never return.
     ///
-    /// Context: no lock, and no sleep but its callback's.
+    /// Context: takes no lock, and sleeps only if its callback does.
     pub fn write<W: WaitOps<N>, R: Wait>(
         &mut self,
         rt: &R,
@@ -237,15 +240,15 @@ impl<N: Naming, P: PageHolder> WaitingFile<N, P> {
         self.file.write(&mut TreeSeats::new(), &mut stores, bytes)
     }
 
-    /// Reads bytes of a binary attribute from the offset on into the front of `out`, by one read under a
-    /// call, after its event number was taken, and returns how many it says they are, a fault as `Callback`
-    /// (`sysfs_kf_bin_read`). A read into no room returns 0 and calls nothing, but it needs a live node
-    /// too. No text is kept.
+    /// Reads bytes of a binary attribute from the offset on into the front of `out` (`sysfs_kf_bin_read`). It
+    /// makes one read callback under a call, after its event number was taken, and returns what the callback
+    /// returns: how many bytes it read, or a fault as `Callback`. If `out` is empty it returns 0 and calls no
+    /// callback, but it too needs a live node. No text is kept.
     ///
-    /// Refusals, in order: `Access` if the file was not opened for reading, `NoDevice` if the node is
-    /// not live; both change nothing. It may never return, as its callback may not.
+    /// Refusals, in order: `Access` if the file was not opened for reading, `NoDevice` if the node is not
+    /// live. Both change nothing. It may never return, since its callback may never return.
     ///
-    /// Context: no lock, and no sleep but its callback's.
+    /// Context: takes no lock, and sleeps only if its callback does.
     pub fn read_at<W: WaitBinaryOps<N>, R: Wait>(
         &mut self,
         rt: &R,
@@ -269,14 +272,14 @@ impl<N: Naming, P: PageHolder> WaitingFile<N, P> {
             .read_at(&mut TreeSeats::new(), &mut reads, offset, out)
     }
 
-    /// Hands all the bytes to one write of a binary attribute at the offset under a call, and returns what
-    /// it returns, a fault as `Callback` (`sysfs_kf_bin_write`). A write of no bytes returns 0 and calls
-    /// nothing, but it needs a live node too.
+    /// Passes all the bytes to one write callback of a binary attribute, at the offset and under a call, and
+    /// returns what the callback returns, a fault as `Callback` (`sysfs_kf_bin_write`). A write of no bytes
+    /// returns 0 and calls no callback, but it too needs a live node.
     ///
-    /// Refusals, in order: `Access` if the file was not opened for writing, `NoDevice` if the node is
-    /// not live. The file stays as it was. It may never return, as its callback may not.
+    /// Refusals, in order: `Access` if the file was not opened for writing, `NoDevice` if the node is not
+    /// live. The file stays as it was. It may never return, since its callback may never return.
     ///
-    /// Context: no lock, and no sleep but its callback's.
+    /// Context: takes no lock, and sleeps only if its callback does.
     pub fn write_at<W: WaitBinaryOps<N>, R: Wait>(
         &mut self,
         rt: &R,
@@ -298,9 +301,10 @@ impl<N: Naming, P: PageHolder> WaitingFile<N, P> {
             .write_at(&mut TreeSeats::new(), &mut writes, offset, bytes)
     }
 
-    /// Whether the file has changed since its last show (`kernfs_fop_poll`): the slot's event number is
-    /// another, or the node is not live. A file that was never shown has the number 0: it has changed where
-    /// numbers begin at 1 or more. The number that the file keeps stays. It waits for nobody.
+    /// Whether the file has changed since its last show or binary read (`kernfs_fop_poll`): the slot's event
+    /// number differs from the one that the file keeps, or the node is not live. Before its first show or
+    /// binary read a file has the number 0, so it has changed if numbers begin at 1 or more. The number that
+    /// the file keeps does not change. A poll waits for nobody.
     pub fn poll(&mut self) -> bool
         ensures polls { Polls
             (WaitVisits (self.new.post ≡ self.old.post) (λ now. Took self.old.post now self.new.post)
@@ -311,10 +315,10 @@ impl<N: Naming, P: PageHolder> WaitingFile<N, P> {
         self.file.poll(&mut TreeSeats::new())
     }
 
-    /// Waits until the file has changed since its last show, or its node is not live: until a `poll` says so.
-    /// It has no reference to the node while it sleeps, so no removal waits for it. A notify wakes it, and so
-    /// does a removal or a hiding that notifies ([`crate::remove_and_tell`], [`crate::tell_removed`],
-    /// [`crate::tell_hidden`]). It may never return.
+    /// Waits until the file has changed since its last show or binary read, or its node is not live: until a
+    /// `poll` returns true. It has no reference to the node while it sleeps, so no removal waits for it. A
+    /// notify wakes it, and so does a removal or a hiding that notifies ([`crate::remove_and_tell`],
+    /// [`crate::tell_removed`], [`crate::tell_hidden`]). It may never return.
     ///
     /// Context: sleeps; takes no lock.
     pub fn wait_changed<R: Wait>(&mut self, rt: &R)
@@ -332,8 +336,8 @@ impl<N: Naming, P: PageHolder> WaitingFile<N, P> {
         unreachable!()
     }
 
-    /// As [`WaitingFile::wait_changed`], for this long at most. False if its last poll found no change: the
-    /// limit is over, or the clock could not be read.
+    /// Like [`WaitingFile::wait_changed`], but waits at most this long. It returns false if its last poll
+    /// found no change: the time is over, or the clock could not be read.
     ///
     /// Context: sleeps; takes no lock.
     pub fn wait_changed_for<R: Wait + Clock>(&mut self, rt: &R, limit: Duration) -> bool
@@ -356,7 +360,7 @@ impl<N: Naming, P: PageHolder> WaitingFile<N, P> {
         unreachable!()
     }
 
-    /// Gives the hold, the post and the page back (`kernfs_fop_release`).
+    /// Closes the file, and returns its hold, its post and its page (`kernfs_fop_release`).
     pub fn into_parts(self) -> (Hold, Post, P)
         ensures hold { result.0 ≡ self.hold }
         ensures post { result.1 ≡ self.post }
@@ -369,7 +373,7 @@ impl<N: Naming, P: PageHolder> WaitingFile<N, P> {
 }
 
 impl<N: Naming, P: PageHolder + Drop> Drop for WaitingFile<N, P> {
-    /// Gives its hold back, also if a `?` leaves between open and close.
+    /// Releases its hold, also if a `?` returns between open and close.
     fn drop(self) {
         let WaitingFile { file, apart: _ } = self;
         let (hold, _post, _page) = file.into_parts();

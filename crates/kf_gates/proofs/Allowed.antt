@@ -1,4 +1,4 @@
--- The steps of each seat, as the table asks for them.
+-- The steps of each seat are allowed, in the form that the table asks for.
 use Rattle.std.proofs.Common.{◌≡◌, ◌≢◌, ℕ, ◌+◌, ◌*◌, ◌/◌, ◌%◌, ◌<◌, true, false, set, get_or, refl, sym, ap, ◌∙◌, subst, arith, eq-eqb, ne_eqb}
 use mathlib.Core.Option.{some, none}
 use lib.ListN.{get_elem?}
@@ -58,11 +58,11 @@ number_of (Turned k f) = 0
 number_of (Broken k n) = n
 number_of (Restored k n) = 0
 
--- the view that the seat is known to have
+-- the seat has the view that it is known to have
 seated_as : (t : Table) (id : ℕ) (x v : GateView) → x ≡ v → get_elem? t.views id ≡ some x → Has t id v
 seated_as t id x v is at = subst (λ (y : GateView). get_elem? t.views id ≡ some y) is at
 
--- a keeper's seat has its plan, and has looked this many times
+-- a keeper's seat has this plan, and has made this many looks
 pub keeps_on : (v : GateView) (p : GatePlan) (n : ℕ) → v ≡ Keeps p n → HasPlan p v × (looks_of v ≡ n)
 keeps_on v p n e = (e ∙ ap (λ (v' : GateView). Keeps p (looks_of v')) (sym e), ap looks_of e)
 
@@ -79,7 +79,7 @@ look_allowed lanes slots id me k knocking t r _ at small =
     let x : ℕ = get_or t.words 0 0 in
     (looked x k, keeps, tt, look_kept lanes t r id k (seated_as t id me.0 (Knocking k) knocking at), λ lane is. ap (looked x) (ap lane_of (sym knocking ∙ is)))
 
--- a caller that steps off is a pass
+-- a caller that has stepped off is a pass
 pub off_pass : (k : ℕ) (v : GateView) → CountsIn k v → IsPass (stepped_off v)
 off_pass k (Keeps p n) counts = absurd counts
 off_pass k Outside counts = absurd counts
@@ -146,7 +146,7 @@ scan_allowed lanes slots id me p n plans shut inside t r _ at small =
     let x : ℕ = get_or t.words (8 * p.seen + 8) 0 in
     (scanned x p n, keeps, tt, scan_kept lanes t r id p n (seated_as t id me.0 (Keeps p n) plans at) shut inside, λ q m is. ap (λ (v : GateView). scanned x (plan_of v) (looks_of v)) (sym plans ∙ is))
 
--- the plan after a look at an empty lane, and at one that is not
+-- the plan after a look at an empty lane, and after a look at a lane that is not empty
 pub scanned_empty : (x : ℕ) (p : GatePlan) → x ≡ 0 → scanned_plan x p ≡ record p { seen = p.seen + 1; found = x }
 scanned_empty x p e = rw (eq-eqb x 0 e) refl
 

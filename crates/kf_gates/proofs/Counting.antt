@@ -1,4 +1,4 @@
--- Sums over all seats, before and after a step of one.
+-- Sums over all seats, before and after a step of one seat.
 use Rattle.std.proofs.Common.{◌≡◌, ℕ, zero, suc, ◌+◌, ◌<◌, ◌≤◌, Bool, true, false, List, [], ◌∷◌, ◌++◌, length, set, refl, sym, ap, arith}
 use mathlib.Core.Option.{some, some-injective, some-ne-none}
 use lib.ListN.{get_elem?}
@@ -6,18 +6,18 @@ use Rattle.kf_gates.specs.declared.view.GateView.{GateView}
 use Rattle.kf_gates.specs.declared.view.GateView.TheVariants.{Keeps, Outside, Looked, Full, Left, Counted, OneTooMany, Knocking, Inside, Turned, Broken, Restored}
 use Rattle.kf_gates.specs.Rule.{IsPass, bit, counted_by, due_from, is_user, total, users}
 
--- one seat's view changes
+-- the sum after one seat's view changes
 pub total_set : (f : GateView → ℕ) (views : List GateView) (j : ℕ) (v w : GateView) → get_elem? views j ≡ some v → total f (set views j w) + f v ≡ total f views + f w
 total_set f [] j v w e = absurd (some-ne-none v (sym e))
 total_set f (x ∷ xs) zero v w e = let same : f x ≡ f v = ap f (some-injective x v e) in omega arith
 total_set f (x ∷ xs) (suc j) v w e = let more = total_set f xs j v w e in omega arith
 
--- a new seat comes
+-- the sum after a new seat is made
 pub total_snoc : (f : GateView → ℕ) (views : List GateView) (w : GateView) → total f (views ++ w ∷ []) ≡ total f views + f w
 total_snoc f [] w = omega arith
 total_snoc f (x ∷ xs) w = let more = total_snoc f xs w in omega arith
 
--- the sum counts each
+-- no seat counts for more than the sum
 pub total_at : (f : GateView → ℕ) (views : List GateView) (j : ℕ) (v : GateView) → get_elem? views j ≡ some v → f v ≤ total f views
 total_at f [] j v e = absurd (some-ne-none v (sym e))
 total_at f (x ∷ xs) zero v e = let same : f x ≡ f v = ap f (some-injective x v e) in omega arith
@@ -75,7 +75,7 @@ due_counted (Turned k f) = omega arith
 due_counted (Broken k n) = omega arith
 due_counted (Restored k n) = omega arith
 
--- what a pass counts for
+-- a pass counts in no lane, and has no pass counted or due
 pub pass_nowhere : (v : GateView) → IsPass v → (lane : ℕ) → is_user lane v ≡ false
 pass_nowhere (Keeps p n) pass lane = absurd pass
 pass_nowhere Outside pass lane = refl

@@ -43,7 +43,7 @@ apart k lane other = ap bit (ne_eqb k lane (λ e. other (sym e)))
 pub here_one : (k : ℕ) → bit (eqb k k) ≡ 1
 here_one k = ap bit (eq-eqb k k refl)
 
--- a step of a seat keeps the rule, under a plan
+-- a step of a seat keeps the rule, under this plan
 moves : (lanes : ℕ) (t : Table) (r : Kept lanes t) (id : ℕ) (v w : GateView) (p : GatePlan) (words : List ℕ) → Has t id v
     → length words ≡ 8 * lanes + 8 → get_or words 0 0 ≡ gate_word p.number p.shut
     → get_or words 2 0 + counted_by v ≡ get_or t.words 2 0 + counted_by w
@@ -66,7 +66,7 @@ moves lanes t r id v w p words at wide word passes few counts still mine others 
       (at_set t.views id j w x e);
 }
 
--- the users of one lane become one more, or one less
+-- a lane has one more user, or one fewer
 recounted : (lanes : ℕ) (words : List ℕ) (k n : ℕ) (b c : ℕ → ℕ) → length words ≡ 8 * lanes + 8 → k < lanes → n + b k ≡ get_or words (8 * k + 8) 0 + c k
     → ((lane : ℕ) → lane ≢ k → b lane ≡ c lane) → (lane : ℕ) → lane < lanes → get_or (set words (8 * k + 8) n) (8 * lane + 8) 0 + b lane ≡ get_or words (8 * lane + 8) 0 + c lane
 recounted lanes words k n b c wide inside here else lane within = dite (ℕ_discrete lane k)
@@ -74,7 +74,7 @@ recounted lanes words k n b c wide inside here else lane within = dite (ℕ_disc
     (ap (λ (z : ℕ). z + b k) (get_or-set_same words (8 * k + 8) n 0 (omega arith)) ∙ here))
     (λ other. let a = get_or-set_other words (8 * k + 8) (8 * lane + 8) n 0 (λ e. other (omega arith)) in let d = else lane other in omega arith)
 
--- a load
+-- a load keeps the rule
 loads : (lanes : ℕ) (t : Table) (r : Kept lanes t) (i id : ℕ) (v w : GateView) (p : GatePlan) → Has t id v
     → get_or t.words 0 0 ≡ gate_word p.number p.shut → counted_by v ≡ counted_by w → due_from v ≡ due_from w → ((lane : ℕ) → bit (is_user lane v) ≡ bit (is_user lane w))
     → (p.shut ≡ true → (lane : ℕ) → lane < p.seen → NoneInside lane (set t.views id w)) → Knows lanes p id w
@@ -98,7 +98,7 @@ on_kept lanes t r id k v w seated nowhere counted c d outside inside mine =
     (λ lane other. nowhere lane ∙ sym (counted lane ∙ apart k lane other)))
     (λ shut lane less. none_stays lane t.views id w (outside lane) (r.still shut lane less)) mine (λ j x _ e. r.seats j x e)
 
--- it no longer does
+-- a caller no longer counts itself in a lane
 off_kept : (lanes : ℕ) (t : Table) (r : Kept lanes t) (id k : ℕ) (v w : GateView) → Has t id v → ((lane : ℕ) → bit (is_user lane v) ≡ bit (eqb k lane)) → ((lane : ℕ) → bit (is_user lane w) ≡ 0)
     → counted_by v ≡ counted_by w → due_from v ≡ due_from w → ((lane : ℕ) → is_inside lane w ≡ false) → k < lanes → Knows lanes r.plan id w
     → Kept lanes (moved t (8 * k + 8) one_less id w)
@@ -167,7 +167,7 @@ counting lanes t r id m v w seated nowhere nowhere' outside passes few mine =
     (λ lane inside. let same = get_or-set_other t.words 2 (8 * lane + 8) m 0 (λ e. omega arith) in let a = ap bit (nowhere lane) in let b = ap bit (nowhere' lane) in omega arith)
     (λ shut lane less. none_stays lane t.views id w (outside lane) (r.still shut lane less)) mine (λ j x _ e. r.seats j x e)
 
--- passes are counted, and none too many for one word
+-- the count of passes is at most 2^33, so it fits in one word
 passes_few : (lanes : ℕ) (t : Table) → Kept lanes t → get_or t.words 2 0 ≤ 8589934592
 passes_few lanes t r = let passes = r.passes in let few = r.few in let more = total_few counted_by counted_few t.views in omega arith
 
@@ -209,7 +209,7 @@ uncount_kept lanes t r id (Turned k f) seated may = absurd may
 uncount_kept lanes t r id (Broken k n) seated may = absurd may
 uncount_kept lanes t r id (Restored k n) seated may = absurd may
 
--- under a plan of the same number what seats other than the keeper's know stays so
+-- what seats other than the keeper's know is true under each plan with the same number
 others_same : (lanes : ℕ) (t : Table) (r : Kept lanes t) (id : ℕ) (p : GatePlan) → id ≡ 0 → p.number ≡ r.plan.number
     → (j : ℕ) (x : GateView) → j ≢ id → Has t j x → Knows lanes p j x
 others_same lanes t r id p first same j (Keeps q n) other e = absurd (other ((r.seats j (Keeps q n) e).1 ∙ sym first))
@@ -225,7 +225,7 @@ others_same lanes t r id p first same j (Turned k f) other e = r.seats j (Turned
 others_same lanes t r id p first same j (Broken k n) other e = r.seats j (Broken k n) e
 others_same lanes t r id p first same j (Restored k n) other e = r.seats j (Restored k n) e
 
--- if nobody is inside, under any plan
+-- if nobody is inside, what seats other than the keeper's know is true under every plan
 others_next : (lanes : ℕ) (t : Table) (r : Kept lanes t) (id : ℕ) (p : GatePlan) → id ≡ 0 → ((lane : ℕ) → lane < lanes → NoneInside lane t.views)
     → (j : ℕ) (x : GateView) → j ≢ id → Has t j x → Knows lanes p j x
 others_next lanes t r id p first clear j (Keeps q n) other e = absurd (other ((r.seats j (Keeps q n) e).1 ∙ sym first))
@@ -242,7 +242,7 @@ others_next lanes t r id p first clear j (Turned k f) other e = r.seats j (Turne
 others_next lanes t r id p first clear j (Broken k n) other e = r.seats j (Broken k n) e
 others_next lanes t r id p first clear j (Restored k n) other e = r.seats j (Restored k n) e
 
--- a store of the gate's word by the keeper
+-- the keeper stores the gate's word
 stores : (lanes : ℕ) (t : Table) (r : Kept lanes t) (id : ℕ) (p q : GatePlan) (n m : ℕ) → Has t id (Keeps p n) → q.spare ≡ p.spare → q.seen ≡ 0 → ((j : ℕ) (x : GateView) → j ≢ id → Has t j x → Knows lanes q j x)
     → Kept lanes (moved t 0 (λ _. gate_word q.number q.shut) id (Keeps q m))
 stores lanes t r id p q n m seated spare unseen others =
@@ -321,7 +321,7 @@ sleep_kept lanes t r id p m f seated =
     (λ lane _. ap (λ (z : ℕ). z + 0) (get_or-set_other t.words 1 (8 * lane + 8) n 0 (λ e. omega arith)))
     (λ shut lane less. none_stays lane t.views id (Keeps p m) refl (r.still shut lane less)) mine (λ j x _ e. r.seats j x e)
 
--- a seat makes the pass that it counted, under a plan
+-- a seat makes the pass that it counted, under this plan
 passes_kept : (lanes : ℕ) (t : Table) (r : Kept lanes t) (id : ℕ) (v : GateView) (p : GatePlan) → Has t id v → due_from v ≡ 1 → counted_by v ≡ 1 → ((lane : ℕ) → is_user lane v ≡ false)
     → due_from (pass_made v) ≡ 0 → counted_by (pass_made v) ≡ 0 → ((lane : ℕ) → is_user lane (pass_made v) ≡ false) → ((lane : ℕ) → is_inside lane (pass_made v) ≡ false)
     → p.number ≡ r.plan.number → p.shut ≡ r.plan.shut → p.seen ≡ r.plan.seen → Knows lanes p id (pass_made v) → ((j : ℕ) (x : GateView) → j ≢ id → Has t j x → Knows lanes p j x)

@@ -1,4 +1,4 @@
--- What holds over every run of steps.
+-- What is true of every run of steps.
 use Rattle.std.proofs.Common.{◌≡◌, ◌≢◌, ◌⊎◌, inl, inr, ℕ, ◌+◌, ◌*◌, ◌/◌, ◌%◌, ◌<◌, Bool, true, false, List, [], ◌∷◌, set, get_or, refl, sym, ap, ◌∙◌, subst, arith, eqb, eq-eqb, ne_eqb, ltb, ⊎_elim}
 use mathlib.Core.Logic.{dite}
 use mathlib.Core.Option.{some, some-injective}
@@ -35,8 +35,8 @@ pub rule_kept : RuleKept
 rule_kept lanes t u [] r e = subst (λ (x : Table). Kept lanes x) (sym e) r
 rule_kept lanes t u (kind ∷ kinds) r s = rule_kept lanes s.0 u kinds (step_keeps lanes t s.0 kind r s.1) s.2
 
--- what one step makes of the keeper's plan: it stays, except for a pass; the gate is shut; a lane was looked
--- at; the next opening begins
+-- what one step does to the keeper's plan: it leaves the plan as it is, except that a pass may be made; it
+-- shuts the gate; it looks at a lane; or it begins the next opening
 data Onward (lanes : ℕ) (p q : GatePlan) : Type 0 where
   stays : q.number ≡ p.number → q.shut ≡ p.shut → q.seen ≡ p.seen → Onward lanes p q
   is_shut : p.shut ≡ false → q.number ≡ p.number → q.shut ≡ true → Onward lanes p q
@@ -69,11 +69,11 @@ other_seat t j v p n at caller keeper e =
     let same : v ≡ Keeps p n = some-injective v (Keeps p n) (sym at ∙ ap (λ (x : ℕ). get_elem? t.views x) (sym e) ∙ keeper) in
     not_both (sym caller ∙ ap is_keeper same)
 
--- a step of a seat that is not the keeper's leaves the keeper's plan
+-- a step of a seat that is not the keeper's leaves the keeper's plan as it is
 other_moves : (lanes : ℕ) (t : Table) (i : ℕ) (f : ℕ → ℕ) (j : ℕ) (v w : GateView) (p : GatePlan) (n : ℕ) → Has t j v → is_keeper v ≡ false → Has t 0 (Keeps p n) → After lanes p (moved t i f j w)
 other_moves lanes t i f j v w p n at caller keeper = (p, (n, set_else t.views j 0 w (other_seat t j v p n at caller keeper) ∙ keeper), stays refl refl refl)
 
--- a step of the keeper: its plan is first in the table after it
+-- after a step of the keeper, its new plan is at the first seat of the table
 keeper_moves : (lanes : ℕ) (t : Table) (r : Kept lanes t) (i : ℕ) (f : ℕ → ℕ) (j : ℕ) (p p' q : GatePlan) (n n' m : ℕ) → Has t j (Keeps p n) → Has t 0 (Keeps p' n') → Onward lanes p q → After lanes p' (moved t i f j (Keeps q m))
 keeper_moves lanes t r i f j p p' q n n' m at keeper onward =
     let first = (r.seats j (Keeps p n) at).1 in let same : p ≡ p' = (r.seats j (Keeps p n) at).0 ∙ sym (r.seats 0 (Keeps p' n') keeper).0 in
@@ -200,7 +200,7 @@ closed_for_good lanes t u kinds r run p h keeper over seat lane number inside =
     (λ (now : (q.number ≡ p.number) × (q.shut ≡ true) × (q.seen ≡ lanes)). absurd (nobody_inside lanes u after 0 q end.1.0 end.1.1 (record { shut = now.1; seen = now.2 }) seat lane number inside))
     end.2
 
--- a view under which its seat is inside, under this number
+-- whether the seat is inside under this number
 abbrev inside_under : ℕ → GateView → Bool
 inside_under n (Keeps p h) = false
 inside_under n Outside = false
@@ -257,7 +257,7 @@ counted_out n found = split (ltb found most_passes) refl
     split true e = let told : after_count found ≡ Counted = rw e refl in ap (inside_under n) told
     split false e = let told : after_count found ≡ OneTooMany found = rw e refl in ap (inside_under n) told
 
--- a look past the mark
+-- a look after the gate was shut lets nobody in under the number
 looked_out : (lanes : ℕ) (t : Table) (r : Kept lanes t) (n k : ℕ) (p : GatePlan) (h : ℕ) → Has t 0 (Keeps p h) → Past n p → inside_under n (looked (get_or t.words 0 0) k) ≡ false
 looked_out lanes t r n k p h keeper past =
     let x : ℕ = get_or t.words 0 0 in let same = (r.seats 0 (Keeps p h) keeper).0 in
@@ -292,7 +292,7 @@ passed_out t j n v at seat lane inside = ⊎_elim
     unmade (Broken k m) e = e
     unmade (Restored k m) e = e
 
--- no step past the mark lets anybody in under the number
+-- no step after the gate was shut lets anybody in under the number
 none_enters : (lanes n : ℕ) (t u : Table) (kind : Kind) (r : Kept lanes t) → GateStep lanes t kind u → (p : GatePlan) (h : ℕ) → Has t 0 (Keeps p h) → Past n p
     → (seat lane : ℕ) → Has u seat (Inside lane n) → Has t seat (Inside lane n)
 none_enters lanes n t u (knocks j k v) r s p h keeper past seat lane inside = lets_none t (8 * k + 8) one_more j n (Knocking k) refl seat lane (subst (λ (x : Table). Has x seat (Inside lane n)) s.3 inside)

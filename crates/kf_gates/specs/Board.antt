@@ -1,4 +1,4 @@
--- What stays of a seat over its steps.
+-- What stays the same about a seat over its steps.
 use Rattle.std.specs.Prelude.{◌≡◌}
 use Rattle.atomic_table.specs.declared.shared.Seat.{Seat}
 use Rattle.kf_gates.specs.declared.view.GatePlan.{GatePlan}
@@ -10,6 +10,6 @@ use Rattle.kf_gates.specs.Rule.{looks_of}
 abbrev pub IsSameSeat : Seat (Unit {0}) GateView → Seat (Unit {0}) GateView → Type 0
 IsSameSeat old new = (new.table_id ≡ old.table_id) × (new.id ≡ old.id)
 
--- it is the keeper's, with this plan
+-- the seat is the keeper's, and has this plan
 abbrev pub HasPlan : GatePlan → GateView → Type 0
 HasPlan plan view = view ≡ Keeps plan (looks_of view)

@@ -8,21 +8,22 @@ use Rattle.kf_gates.specs.declared.view.GateView.TheVariants.{Keeps, Inside, Tur
 use Rattle.kf_gates.specs.Rule.{Table, Kept}
 use Rattle.kf_gates.specs.Steps.{looked}
 
--- the seat knows this
+-- the seat with this number knows this
 abbrev pub Has : Table → ℕ → GateView → Type 0
 Has t j v = get_elem? t.views j ≡ some v
 
--- the keeper's plan is of an opening that is over: every lane was seen empty since the gate was shut
+-- the keeper's plan says that the last opening is over: the gate is shut, and every lane counts as seen empty
+-- since then
 pub record IsOver (lanes : ℕ) (p : GatePlan) : Type 0 where
   pub shut : p.shut ≡ true
   pub seen : p.seen ≡ lanes
 
--- whoever is inside came under the number of the last opening
+-- whoever is inside came in under the number of the last opening
 abbrev pub InsideOnLast : Type 0
 InsideOnLast = (lanes : ℕ) (t : Table) → Kept lanes t
     → (seat lane number : ℕ) → Has t seat (Inside lane number) → slice_index t.words 0 / 2 ≡ number
 
--- once the keeper saw all lanes empty since it shut the gate, nobody is inside
+-- once the keeper has seen all lanes empty since it shut the gate, nobody is inside
 abbrev pub ClosedIsEmpty : Type 0
 ClosedIsEmpty = (lanes : ℕ) (t : Table) → Kept lanes t
     → (p : GatePlan) (n : ℕ) → Has t 0 (Keeps p n) → IsOver lanes p

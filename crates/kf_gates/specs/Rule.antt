@@ -10,16 +10,16 @@ use Rattle.kf_gates.specs.declared.view.GateView.TheVariants.{Keeps, Outside, Lo
 abbrev pub Table : Type 0
 Table = State (Unit {0}) GateView
 
--- 1 if it is set
+-- 1 if the flag is set, else 0
 abbrev pub bit : Bool → ℕ
 bit true = 1
 bit false = 0
 
--- the gate's word while it is open under this number, and while it is shut
+-- the gate's word: twice the number of the last opening, plus 1 if the gate is shut
 abbrev pub gate_word : ℕ → Bool → ℕ
 gate_word number shut = number * 2 + bit shut
 
--- the most passes that a gate may have in its life
+-- the greatest number of seats that a gate may have in its life: its keeper's, and one for each pass
 abbrev pub most_passes : ℕ
 most_passes = 4294967296
 
@@ -38,7 +38,7 @@ IsPass (Turned k f) = ⊥
 IsPass (Broken k n) = ⊥
 IsPass (Restored k n) = ⊥
 
--- the seat counts in this lane
+-- whether the seat counts in this lane
 abbrev pub is_user : ℕ → GateView → Bool
 is_user lane (Keeps p n) = false
 is_user lane Outside = false
@@ -53,7 +53,7 @@ is_user lane (Turned k f) = k == lane
 is_user lane (Broken k n) = false
 is_user lane (Restored k n) = k == lane
 
--- the seat is inside, by this lane
+-- whether the seat is inside, by this lane
 abbrev pub is_inside : ℕ → GateView → Bool
 is_inside lane (Keeps p n) = false
 is_inside lane Outside = false
@@ -83,7 +83,7 @@ counted_by (Turned k f) = 0
 counted_by (Broken k n) = 0
 counted_by (Restored k n) = 0
 
--- how many seats it may still make
+-- how many passes the seat may still make
 abbrev pub due_from : GateView → ℕ
 due_from (Keeps p n) = bit p.spare
 due_from Outside = 0
@@ -103,7 +103,7 @@ abbrev pub looks_of : GateView → ℕ
 looks_of (Keeps p n) = n
 looks_of other = 0
 
--- the sum over all seats
+-- the sum of this function over all seats
 abbrev pub total : (GateView → ℕ) → List GateView → ℕ
 total f [] = 0
 total f (v ∷ vs) = f v + total f vs
@@ -116,8 +116,8 @@ users lane views = total (λ v. bit (is_user lane v)) views
 abbrev pub NoneInside : ℕ → List GateView → Type 0
 NoneInside lane views = (j : ℕ) (v : GateView) → get_elem? views j ≡ some v → is_inside lane v ≡ false
 
--- what a seat may know. The first seat is the keeper's, and the only one that has the plan; a lane that is
--- named is there; whoever is inside came under the last number
+-- what a seat may know. Only the first seat is the keeper's, and has the plan. A lane that a seat names is
+-- one of the gate's lanes. A seat that is inside came in under the last number
 abbrev pub Knows : ℕ → GatePlan → ℕ → GateView → Type 0
 Knows lanes p j (Keeps q n) = (q ≡ p) × (j ≡ 0)
 Knows lanes p j Outside = Unit {0}
@@ -143,6 +143,7 @@ pub record Kept (lanes : ℕ) (t : Table) : Type 0 where
   pub still : plan.shut ≡ true → (lane : ℕ) → lane < plan.seen → NoneInside lane t.views
   pub seats : (j : ℕ) (v : GateView) → get_elem? t.views j ≡ some v → Knows lanes plan j v
 
--- a new gate is shut under the number 0, nobody was ever inside, and the keeper may make the first pass
+-- what the keeper of a new gate knows: the gate is shut under the number 0, its lanes count as seen empty,
+-- and the keeper may make the first pass
 abbrev pub opened : ℕ → GateView
 opened lanes = Keeps (record { number = 0; shut = true; seen = lanes; found = 0; spare = true }) 0

@@ -8,7 +8,7 @@ use Rattle.kf_gates.specs.Rule.{Table, Kept, IsPass, gate_word, due_from, opened
 use Rattle.kf_gates.specs.Steps.{after_count, looked, next_plan, pass_made, scanned, shut_plan, stepped_off, uncounted}
 use Rattle.kf_gates.specs.Laws.{Has, IsOver}
 
--- the kinds of step, each with the seat that makes it and what that seat knows
+-- the kinds of steps, each with the seat that makes it and with what that seat knows
 pub data Kind : Type 0 where
   knocks : ℕ → ℕ → GateView → Kind
   looks : ℕ → ℕ → Kind
@@ -24,7 +24,7 @@ pub data Kind : Type 0 where
   opens : ℕ → GatePlan → ℕ → Kind
   counts_sleep : ℕ → GatePlan → ℕ → ℕ → Kind
 
--- a caller in this state counts in this lane, and may step off
+-- a caller that knows this counts in this lane and has looked at the gate's word, so it may step off
 abbrev pub CountsIn : ℕ → GateView → Type 0
 CountsIn lane (Keeps p n) = ⊥
 CountsIn lane Outside = ⊥
@@ -39,7 +39,7 @@ CountsIn lane (Turned k f) = k ≡ lane
 CountsIn lane (Broken k n) = ⊥
 CountsIn lane (Restored k n) = k ≡ lane
 
--- it has counted a pass that it does not make
+-- the seat has counted a pass that it has not made, and may take it back
 abbrev pub MayUncount : GateView → Type 0
 MayUncount (Keeps p n) = ⊥
 MayUncount Outside = ⊥
@@ -54,7 +54,7 @@ MayUncount (Turned k f) = ⊥
 MayUncount (Broken k n) = ⊥
 MayUncount (Restored k n) = ⊥
 
--- a word after one is added, and after one is taken off
+-- a word after 1 was added to it, and after 1 was subtracted from it
 abbrev pub one_more : ℕ → ℕ
 one_more n = (n + 1) % 18446744073709551616
 
@@ -109,29 +109,29 @@ GateRun lanes t [] u = u ≡ t
 GateRun lanes t (kind ∷ kinds) u =
     (between : Table) × GateStep lanes t kind between × GateRun lanes between kinds u
 
--- the words of a new gate: it is shut under the number 0, and two seats are counted, its keeper's and that of
+-- the words of a new gate: it is shut under the number 0, and two seats are counted, the keeper's and that of
 -- the first pass
 abbrev pub new_words : ℕ → List ℕ
 new_words lanes = slice_set (slice_set (replicate (8 * lanes + 8) 0) 0 1) 2 2
 
--- they meet the rule
+-- the words of a new gate meet the rule
 abbrev pub OpensWell : Type 0
 OpensWell = (lanes : ℕ) → Kept lanes (opening (new_words lanes) [] (opened lanes))
 
--- each run of any seats keeps the rule
+-- each run of steps, by any seats, keeps the rule
 abbrev pub RuleKept : Type 0
 RuleKept = (lanes : ℕ) (t u : Table) (kinds : List Kind) → Kept lanes t → GateRun lanes t kinds u
     → Kept lanes u
 
--- once the gate was shut under a number, nobody is let in under that number: whoever is inside under it at
--- any later moment was inside when the gate was shut
+-- once the gate is shut under a number, nobody else is let in under that number: whoever is inside under it
+-- at any later moment was already inside
 abbrev pub NobodyPastTheMark : Type 0
 NobodyPastTheMark = (lanes : ℕ) (t u : Table) (kinds : List Kind) → Kept lanes t → GateRun lanes t kinds u
     → (p : GatePlan) (n : ℕ) → Has t 0 (Keeps p n) → p.shut ≡ true
     → (seat lane : ℕ) → Has u seat (Inside lane p.number) → Has t seat (Inside lane p.number)
 
--- once the keeper saw all lanes empty since it shut the gate, whoever is inside at any later moment came
--- under a later number
+-- once the keeper has seen all lanes empty since it shut the gate, whoever is inside at any later moment came
+-- in under a later number
 abbrev pub ClosedForGood : Type 0
 ClosedForGood = (lanes : ℕ) (t u : Table) (kinds : List Kind) → Kept lanes t → GateRun lanes t kinds u
     → (p : GatePlan) (n : ℕ) → Has t 0 (Keeps p n) → IsOver lanes p

@@ -25,15 +25,15 @@ pub record ClosedState : Type 0 where
   pub seat : GateSeat
   pub plan : GatePlan
 
--- the keeper of a gate, whose seat knows this plan and has looked at lanes this many times, and the value
--- that it keeps
+-- the keeper of a gate: its seat knows this plan and has looked at lanes this many times, and the keeper
+-- keeps this value
 pub record KeeperState (Kept : Type 0) : Type 0 where
   pub seat : GateSeat
   pub plan : GatePlan
   pub looks : ℕ
   pub kept : Kept
 
--- an opening of a gate: whose seat its keeper has, and its number
+-- an opening of a gate: the seat of the gate's keeper, and the number of the opening
 pub record Opening : Type 0 where
   pub seat : GateSeat
   pub number : ℕ
@@ -44,7 +44,7 @@ opening_of keeper = record { seat = keeper.seat; number = keeper.plan.number }
 abbrev pub last_opening : ClosedState → Opening
 last_opening closed = record { seat = closed.seat; number = closed.plan.number }
 
--- a pass by a lane
+-- a pass: its seat, its lane, and what the seat knows
 pub record PassState : Type 0 where
   pub seat : GateSeat
   pub lane : ℕ
@@ -58,7 +58,7 @@ pub record CallState : Type 0 where
   pub phase : Phase
   pub view : GateView
 
--- what a call in this phase knows
+-- what the seat of a call in this phase knows
 abbrev pub call_view : Phase → ℕ → ℕ → GateView
 call_view phase_of.Still lane number = Outside
 call_view phase_of.Turned lane number = Outside
@@ -71,19 +71,19 @@ call_view phase_of.Hiding lane number = Outside
 call_view phase_of.Hidden lane number = Outside
 call_view phase_of.Spent lane number = Outside
 
--- the look that it made in its lane found a gate that is not open under this number
+-- the look that the pass made in its lane found that the gate was not open under this number
 abbrev pub WasRefused : ℕ → PassState → Type 0
 WasRefused number pass = (word : ℕ) × (pass.view ≡ Looked word) × (word ≢ gate_word number false)
 
--- the keeper has looked at lanes since the old state, and its last look found somebody who counts in the next
+-- the keeper has looked at lanes since the old state, and its last look found a caller counted in the next
 -- lane
 pub record FoundUser {Kept : Type 0} (old new : KeeperState Kept) : Type 0 where
   pub looked : old.looks < new.looks
   pub lane : new.plan.seen < new.seat.gate.lanes
   pub found : 0 < new.plan.found
 
--- no pass is made if the gate has had as many as it may, or if its words can have no owner more. Either way
--- the pass that was counted is taken back
+-- no pass is made if the gate was found with the greatest number of seats, or if its words can have no
+-- further owner. Either way the pass that was counted is taken back
 abbrev pub PassRefused : PassState → Refusal → Type 0
 PassRefused by why = ((why ≡ TooManyHolds) × ((made : ℕ) × (by.view ≡ Full made) × (most_passes ≤ made)))
     ⊎ ((why ≡ NoMemory) × (by.view ≡ Outside))

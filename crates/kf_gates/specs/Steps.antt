@@ -1,4 +1,4 @@
--- What each step makes of what its own seat knows.
+-- How each step changes what the seat that makes it knows.
 use Rattle.std.specs.Prelude.{◌≡◌, ℕ, ◌+◌, ◌*◌, ◌/◌, ◌%◌, ◌==◌, ltb, true, false, if◌then◌else◌}
 use Rattle.atomic_table.specs.Table.{Me, Step}
 use Rattle.kf_gates.specs.declared.view.GatePlan.{GatePlan}
@@ -9,7 +9,7 @@ use Rattle.kf_gates.specs.Rule.{gate_word, most_passes}
 abbrev pub Seated : Type 0
 Seated = Me (Unit {0}) GateView
 
--- the seat has made the pass that it counted
+-- what the seat knows after it has made the pass that it counted
 abbrev pub pass_made : GateView → GateView
 pass_made (Keeps p n) = Keeps (record p { spare = false }) n
 pass_made Outside = Outside
@@ -24,11 +24,12 @@ pass_made (Turned k f) = Turned k f
 pass_made (Broken k n) = Broken k n
 pass_made (Restored k n) = Restored k n
 
--- the seat found this number of passes, and counted one more
+-- what the seat knows after it found this number of seats, and counted one more
 abbrev pub after_count : ℕ → GateView
 after_count found = if ltb found most_passes then Counted else OneTooMany found
 
--- the seat has taken back what it counted. What it keeps of one too many is how many it found
+-- what the seat knows after it took back the pass that it had counted. If that was one too many, it still
+-- knows which number it had found
 abbrev pub uncounted : GateView → GateView
 uncounted (Keeps p n) = Keeps p n
 uncounted Outside = Outside
@@ -43,12 +44,13 @@ uncounted (Turned k f) = Turned k f
 uncounted (Broken k n) = Broken k n
 uncounted (Restored k n) = Restored k n
 
--- a look that finds the gate open lets its caller in, under the number that it found
+-- what a caller knows after a look: if the gate was open, it is inside, under the number that it found; else
+-- it was turned away
 abbrev pub looked : ℕ → ℕ → GateView
 looked found lane = if found % 2 == 0 then Inside lane (found / 2) else Turned lane found
 
--- the seat no longer counts in its lane. It keeps the word that its look there found, unless it broke its
--- protection after that look
+-- what the seat knows once it no longer counts in its lane: the word that its look there found, unless it
+-- broke its protection after that look
 abbrev pub stepped_off : GateView → GateView
 stepped_off (Keeps p n) = Keeps p n
 stepped_off Outside = Outside
@@ -63,7 +65,7 @@ stepped_off (Turned k f) = Looked f
 stepped_off (Broken k n) = Broken k n
 stepped_off (Restored k n) = Outside
 
--- the keeper after a look at the next lane: one that is empty is done
+-- the keeper's plan after a look at the next lane. If that lane is empty, the one after it is next
 abbrev pub scanned_plan : ℕ → GatePlan → GatePlan
 scanned_plan found p = record p { seen = (if found == 0 then p.seen + 1 else p.seen); found = found }
 
@@ -110,6 +112,6 @@ MakesScan st me found me' = (p : GatePlan) (n : ℕ) → me.0 ≡ Keeps p n → 
 abbrev pub MakesOpening : Step (Unit {0}) → Seated → ℕ → Seated → Type 0
 MakesOpening st me found me' = (p : GatePlan) (n : ℕ) → me.0 ≡ Keeps p n → me'.0 ≡ Keeps (next_plan p) n
 
--- a step on the count of those who sleep changes no view
+-- a step on the count of the threads that sleep changes no view
 abbrev pub MakesSleepCount : Step (Unit {0}) → Seated → ℕ → Seated → Type 0
 MakesSleepCount st me found me' = me'.0 ≡ me.0

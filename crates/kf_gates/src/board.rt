@@ -1,11 +1,14 @@
-//! The words of a gate, and the steps of its seats one by one.
+//! The words of a gate, and the steps of its seats, one by one.
 //!
 //! A leave makes no system call if nobody sleeps, and no wake is lost. A keeper that waits for a lane (1)
-//! counts itself in word 1, then (2) has the kernel compare the lane with what it saw, which was not 0, and
-//! queue it. A caller that leaves (3) subtracts from the lane, and if that is 0 now (4) loads word 1 and (5)
-//! wakes all who sleep on the lane if that is not 0. If the lane comes to 0 after (2), its step (3) has a (4)
-//! that comes after (1) and a (5) that finds the sleeper queued. If it came to 0 before (2), it differs from
-//! what was seen, unless somebody counts there again, who leaves later.
+//! counts itself in word 1. Then (2) the kernel, in one step, compares the lane with what the keeper saw
+//! there, which was not 0, and queues the keeper if they are equal. A caller that leaves (3) subtracts one
+//! from the lane. If the lane is 0 now, the caller (4) loads word 1. If that is not 0, the caller (5) wakes
+//! all threads that sleep on the lane.
+//!
+//! If the lane reaches 0 after (2), the (4) of that leave comes after (1), and its (5) finds the sleeper
+//! queued. If the lane reached 0 before (2), it differs from what the keeper saw, unless another caller has
+//! counted itself there since. That caller leaves later.
 ghost use Rattle.std.specs.Prelude.{◌≡◌, ℕ, ◌+◌, ◌*◌, ◌<◌, ◌≤◌, true, false, IfOk};
 ghost use Rattle.kf_gates.specs.declared.view.GatePlan.{GatePlan};
 ghost use Rattle.kf_gates.specs.declared.view.GateView.{GateView};
@@ -26,10 +29,11 @@ use atomic_table::Seat;
 use std::alloc::{AllocError, Global};
 use std::sync::Wait;
 
-/// The most lanes of a gate.
+/// The greatest number of lanes that a gate may have.
 pub const MOST_LANES: u64 = 65535;
 
-/// The most passes of a gate in its life, dropped ones among them.
+/// A gate has fewer than this many passes in its life, including dropped ones. The limit counts the keeper's
+/// seat too.
 pub const MOST_PASSES: u64 = 4294967296;
 
 /// A seat at a gate's words.
@@ -46,7 +50,8 @@ pub(crate) struct Board {
 }
 
 impl Board {
-    /// The words of a gate that was never opened, its keeper's seat, and what that knows.
+    /// Makes the words of a gate that was never opened, and its keeper's seat. Returns both, with what that
+    /// seat knows.
     pub(crate) fn new(alloc: Global, lanes: u64) -> Result<(Board, GateSeat, GatePlan), AllocError>
         requires range { (0 < lanes) × (lanes ≤ 65535) }
         ensures table { IfOk result (λ r. r.1.table_id ≡ r.0.table.shared.table_id) }
@@ -78,7 +83,8 @@ impl Board {
         self.table.shared.split_seat::<Passes>(seat)
     }
 
-    /// How many passes it found.
+    /// Counts one more pass in word 2, and returns what that word was before. The word counts the keeper and
+    /// all passes.
     pub(crate) fn count(&self, seat: &mut GateSeat) -> u64
         requires table { seat.old.table_id ≡ self.now.table.shared.table_id }
         requires outside { IsPass seat.old.me.0 }
@@ -97,7 +103,7 @@ impl Board {
         self.table.shared.fetch_sub::<Uncounts>(seat, 2, 1);
     }
 
-    /// Counts the caller in its lane, and then looks at the gate's word, which it returns.
+    /// Counts the caller in its lane, and then loads the gate's word and returns it.
     pub(crate) fn knock(&self, seat: &mut GateSeat, lane: u32) -> u64
         requires table { seat.old.table_id ≡ self.now.table.shared.table_id }
         requires lane { lane < self.now.lanes }
@@ -110,7 +116,7 @@ impl Board {
         self.table.shared.load::<Looks>(seat, 0)
     }
 
-    /// Counts the caller no longer, and returns how many were counted in its lane. It wakes nobody.
+    /// Takes the caller off the count of its lane, and returns what that count was before. It wakes nobody.
     pub(crate) fn step_back(&self, seat: &mut GateSeat, lane: u32) -> u64
         requires table { seat.old.table_id ≡ self.now.table.shared.table_id }
         requires lane { lane < self.now.lanes }
@@ -122,7 +128,8 @@ impl Board {
         self.table.shared.fetch_sub::<Leaves>(seat, word, 1)
     }
 
-    /// Counts the caller no longer, and wakes those who sleep on the lane if it was the last.
+    /// Takes the caller off the count of its lane. If it was the last one there, the threads that sleep on
+    /// the lane are woken.
     pub(crate) fn step_off(&self, seat: &mut GateSeat, lane: u32)
         requires table { seat.old.table_id ≡ self.now.table.shared.table_id }
         requires lane { lane < self.now.lanes }
@@ -134,7 +141,8 @@ impl Board {
         self.wake(8 * lane as usize + 8, found);
     }
 
-    /// Counts the caller no longer, and then looks at the gate's word, which it returns. It wakes nobody.
+    /// Takes the caller off the count of its lane, and then loads the gate's word and returns it. It wakes
+    /// nobody.
     pub(crate) fn step_away(&self, seat: &mut GateSeat, lane: u32) -> u64
         requires table { seat.old.table_id ≡ self.now.table.shared.table_id }
         requires lane { lane < self.now.lanes }
@@ -146,7 +154,7 @@ impl Board {
         self.table.shared.load::<LooksBack>(seat, 0)
     }
 
-    /// The same as `step_off`, of a caller that will count itself again.
+    /// Like `step_off`, for a caller that is inside and will count itself again.
     pub(crate) fn break_off(&self, seat: &mut GateSeat, lane: u32)
         requires table { seat.old.table_id ≡ self.now.table.shared.table_id }
         requires lane { lane < self.now.lanes }
@@ -172,7 +180,8 @@ impl Board {
         self.table.shared.fetch_add::<Restores>(seat, word, 1);
     }
 
-    /// Wakes those who sleep on a lane in which the last caller was counted.
+    /// Wakes the threads that sleep on the lane in this word, if the count found there was 1: the last caller
+    /// has left.
     fn wake(&self, word: usize, found: u64)
         requires word { word < self.now.table.shared.table_id.words }
     {
@@ -203,7 +212,7 @@ impl Board {
         }
     }
 
-    /// Looks at the next lane.
+    /// Looks at the first lane that was not seen empty yet.
     pub(crate) fn scan(&self, seat: &mut GateSeat, plan: GatePlan) -> GatePlan
         requires table { seat.old.table_id ≡ self.now.table.shared.table_id }
         requires keeps { HasPlan plan seat.old.me.0 }
@@ -263,7 +272,8 @@ impl Board {
         self.table.shared.fetch_sub::<CountsSleep>(seat, 1, 1);
     }
 
-    /// Sleeps while the next lane is as it was found, which is not 0. It may return for no reason.
+    /// Sleeps until a wake, if the next lane still is as it was found, which was not 0. It may also return
+    /// for no reason.
     pub(crate) fn rest<R: Wait>(&self, rt: &R, seat: &mut GateSeat, plan: GatePlan)
         requires table { seat.old.table_id ≡ self.now.table.shared.table_id }
         requires keeps { HasPlan plan seat.old.me.0 }

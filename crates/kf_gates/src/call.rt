@@ -12,8 +12,9 @@ use kf_core::Phase;
 use std::marker::Model;
 use std::sync::Arc;
 
-/// Is inside a gate, which was open under this number when it looked, or broke its protection there. While it
-/// is Running, the keeper does not get its value back. It must be spent, by `leave`.
+/// A call through a gate: its caller is inside, or was inside and broke its protection. The gate was open
+/// under the call's number when the caller looked. While the call is Running, the keeper does not get its
+/// value back. The call must be passed to `leave`.
 pub struct GateCall {
     pub(crate) board: Arc<Board>,
     pub(crate) seat: GateSeat,
@@ -46,21 +47,21 @@ impl Model for GateCall {
 }
 
 impl GateCall {
-    /// The number of the opening under which it came.
+    /// Returns the number of the opening under which the call entered.
     pub fn number(&self) -> u64
         ensures { result ≡ self.now.number }
     {
         self.number
     }
 
-    /// Running, Broken or Restored.
+    /// Returns the call's phase, which is Running, Broken or Restored.
     pub fn phase(&self) -> Phase
         ensures { result ≡ self.now.phase }
     {
         self.phase
     }
 
-    /// Goes out again (`percpu_ref_put`).
+    /// Goes out of the gate again, and returns the pass (`percpu_ref_put`).
     ///
     /// Condition: Running or Restored.
     pub fn leave(self) -> Pass
@@ -79,7 +80,7 @@ impl GateCall {
         Pass { board, seat, lane }
     }
 
-    /// Breaks its protection, in one step: it is not inside any longer, and no keeper waits for it
+    /// Breaks the call's protection, in one step. The call is no longer inside, and no keeper waits for it
     /// (`kernfs_break_active_protection`).
     ///
     /// Condition: Running.
@@ -93,8 +94,9 @@ impl GateCall {
         self.phase = Phase::Broken;
     }
 
-    /// Counts in its lane again, in one step, whatever became of the gate
-    /// (`kernfs_unbreak_active_protection`). It is not inside: a gate may be closed meanwhile.
+    /// Counts the call in its lane again, in one step, whatever has become of the gate
+    /// (`kernfs_unbreak_active_protection`). The call is not inside, since the gate may have been closed in
+    /// the meantime.
     ///
     /// Condition: Broken.
     pub fn restore(&mut self)

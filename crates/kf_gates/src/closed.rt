@@ -1,4 +1,4 @@
-//! A gate that nobody is in.
+//! A closed gate: nobody is inside.
 ghost use Rattle.std.specs.Prelude.{◌≡◌, ◌⊎◌, ◌+◌, ◌<◌, ◌≤◌, false, IfOk, IfErr};
 ghost use Rattle.kf_core.specs.declared.refusal.Refusal.TheVariants as refusal_of;
 ghost use Rattle.kf_gates.specs.Laws.{IsOver};
@@ -13,7 +13,8 @@ use std::alloc::Global;
 use std::marker::Model;
 use std::sync::Arc;
 
-/// The keeper of a gate that is shut, and whose lanes it has all seen empty since: nobody is inside.
+/// The keeper of a closed gate. The gate is new, or the keeper has seen each lane empty since the gate was
+/// shut. Either way nobody is inside.
 #[derive(Drop)]
 pub struct Closed {
     pub(crate) board: Arc<Board>,
@@ -44,8 +45,8 @@ impl Model for Closed {
 }
 
 impl Closed {
-    /// A gate with this number of lanes, which was never opened, and its first pass, by lane 0: all other
-    /// passes come of that ([`Pass::another`]).
+    /// Makes a closed gate with this number of lanes, which was never opened, and the gate's first pass, by
+    /// lane 0. All other passes come from that one ([`Pass::another`]).
     ///
     /// Refusals, in order: Invalid (no lane, or more than 65,535), NoMemory.
     pub fn new(alloc: Global, lanes: u64) -> Result<(Closed, Pass), Refusal>
@@ -78,8 +79,8 @@ impl Closed {
         Ok((closed, pass))
     }
 
-    /// Opens the gate under the next number, with a value that it keeps while anybody is inside
-    /// (`percpu_ref_resurrect`). Both come back if the gate has had 2^32 openings.
+    /// Opens the gate under the next number, with a value that the gate keeps while anybody may be inside
+    /// (`percpu_ref_resurrect`). If the gate has had 2^32 openings, both are returned.
     pub fn open<T>(self, kept: T) -> Result<Keeper<T>, (Closed, T)>
         ensures kept { IfOk result (λ keeper. keeper.kept ≡ kept) }
         ensures seat { IfOk result (λ keeper. keeper.seat ≡ self.seat) }
@@ -105,7 +106,7 @@ impl Closed {
         })
     }
 
-    /// The number of its last opening, 0 of a gate that was never opened.
+    /// Returns the number of the gate's last opening, or 0 if the gate was never opened.
     pub fn number(&self) -> u64
         ensures { result ≡ self.now.plan.number }
     {

@@ -9,8 +9,8 @@ use crate::view::GatePlan;
 use std::marker::Model;
 use std::sync::{Arc, Wait};
 
-/// Keeps a value while anybody may be inside its gate. It must be spent, by `try_close` or `wait_closed`:
-/// only these give the value back.
+/// Keeps a value while anybody may be inside its gate. The keeper must be passed to `try_close` or
+/// `wait_closed`, since only these return the value.
 pub struct Keeper<T> {
     pub(crate) board: Arc<Board>,
     pub(crate) seat: GateSeat,
@@ -43,7 +43,7 @@ impl<T> Model for Keeper<T> {
 }
 
 impl<T> Keeper<T> {
-    /// The number under which the gate was opened: callers go in by it.
+    /// Returns the number under which the gate was opened. Callers enter under this number.
     pub fn number(&self) -> u64
         ensures { result ≡ self.now.plan.number }
     {
@@ -64,8 +64,8 @@ impl<T> Keeper<T> {
         self.plan.shut
     }
 
-    /// Shuts the gate, in one step (`percpu_ref_kill`): from then on nobody is let in. It waits for nobody,
-    /// and does nothing if the gate is shut.
+    /// Shuts the gate in one step (`percpu_ref_kill`), so that from then on nobody is let in. It does not
+    /// wait for anybody, and does nothing if the gate is already shut.
     pub fn shut(&mut self)
         ensures shut { self.new.plan.shut ≡ true }
         ensures same { KeepsOn self.old self.new }
@@ -77,8 +77,9 @@ impl<T> Keeper<T> {
         self.plan = self.board.shut(&mut self.seat, self.plan);
     }
 
-    /// Looks at the lanes that it has not seen empty yet, one after the other, up to the first in which
-    /// somebody counts. If there is none, nobody is inside, and the value comes back.
+    /// Tries to close the gate: looks at the lanes that the keeper has not seen empty yet, one after another,
+    /// up to the first one that is not empty. If all are empty, nobody is inside. Then the closed gate and
+    /// the value are returned, and otherwise the keeper.
     ///
     /// Condition: the gate is shut.
     pub fn try_close(self) -> Result<(Closed, T), Keeper<T>>
@@ -109,8 +110,8 @@ impl<T> Keeper<T> {
         Ok((Closed { board, seat, plan }, kept))
     }
 
-    /// Sleeps until it has seen each lane empty, one after the other, and gives the value back: nobody is
-    /// inside. It may never return.
+    /// Sleeps until it has seen each lane empty, one after another, and then returns the closed gate and the
+    /// value. Nobody is inside then. It may never return.
     ///
     /// Condition: the gate is shut.
     ///

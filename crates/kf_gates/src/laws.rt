@@ -2,14 +2,14 @@
 ghost use Rattle.kf_gates.specs.Laws.{InsideOnLast, ClosedIsEmpty, ShutLetsNobodyIn, OpenLetsIn};
 ghost use Rattle.kf_gates.specs.Runs.{OpensWell, RuleKept, NobodyPastTheMark, ClosedForGood};
 
-/// What holds at each moment at which the rule holds, which is between any two steps, and over each run of
-/// steps of any number of seats. It does nothing: its clauses say what follows from the rule, which the words
-/// of a new gate meet and each step keeps.
+/// What holds between any two steps, and over each run of steps of any number of seats. The function does
+/// nothing. Its clauses say what follows from the rule, which the words of a new gate meet and each step
+/// keeps.
 ///
-/// Whoever is inside came under the number of the last opening. Once the keeper saw every lane empty since it
-/// shut the gate, nobody is inside; and whoever is inside at any later moment came under a later number.
-/// While the gate is shut, a look lets nobody in, so nobody comes in past the mark under its number; while it
-/// is open, a look lets its caller in.
+/// Whoever is inside came in under the number of the last opening. Once the keeper has seen every lane empty
+/// since it shut the gate, nobody is inside. Whoever is inside at any later moment came in under a later
+/// number. While the gate is shut, a look lets nobody in, so nobody gets in under its number after it was
+/// shut. While the gate is open, a look lets its caller in.
 pub fn gates_tell()
     ensures inside_on_last { InsideOnLast }
     ensures closed_is_empty { ClosedIsEmpty }

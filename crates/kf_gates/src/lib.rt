@@ -1,18 +1,18 @@
-//! Gates: a value that is kept while callers are inside, however many threads they are of (the kernel's
-//! percpu_ref). Callers count in lanes, each in its own cache line, and callers of different lanes write no
-//! line that they share.
+//! Gates: a gate keeps a value while callers are inside, whatever threads they run on (the kernel's
+//! percpu_ref). Callers are counted in lanes, each in its own cache line. Callers of different lanes write to
+//! no cache line that they share.
 //!
-//! - `Closed::new` makes a gate and its first `Pass`, and `Pass::another` one for each thread.
-//! - `Closed::open` puts a value into the gate, mostly a call of a node, and gives the gate's `Keeper`.
-//! - `Pass::enter` goes inside, by an addition on the lane and a load of the gate's word, and gives a
-//!   `GateCall`. `GateCall::leave` goes out again, by a subtraction on the lane.
-//! - `Keeper::shut` marks the gate: from then on nobody is let in. `Keeper::wait_closed` sleeps until it has
-//!   seen each lane empty, one after the other, and gives the value back: nobody is inside.
+//! - `Closed::new` makes a gate and its first `Pass`. `Pass::another` makes one for each further thread.
+//! - `Closed::open` puts a value into the gate, usually a call of a node, and returns the gate's `Keeper`.
+//! - `Pass::enter` goes inside and returns a `GateCall`. It adds one to the lane, and then loads the gate's
+//!   word. `GateCall::leave` goes out again. It subtracts one from the lane.
+//! - `Keeper::shut` shuts the gate: from then on nobody is let in. `Keeper::wait_closed` sleeps until it has
+//!   seen each lane empty, one after another. Then nobody is inside, and it returns the value.
 //! - `Pass::enter_quiet`, `GateCall::leave_quiet` and `Keeper::try_close` are for keepers that do not sleep
-//!   on the lanes, as those of the library for C.
+//!   on the lanes, such as those of the library for C.
 //!
 //! A gate has one keeper: `Closed` and `Keeper` cannot be copied, and each becomes the other. A pass belongs
-//! to its gate, and no call takes it to another. `gates_tell` are the laws.
+//! to its gate, and no call moves it to another gate. The laws are the clauses of `gates_tell`.
 #![tactic(auto)]
 
 mod board;

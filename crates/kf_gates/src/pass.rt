@@ -10,7 +10,7 @@ use kf_core::{Phase, Refusal};
 use std::marker::Model;
 use std::sync::Arc;
 
-/// May go through a gate, by its lane. It keeps nothing from being closed.
+/// Lets a thread through a gate, by its lane. A pass does not stop the keeper from closing the gate.
 #[derive(Drop)]
 pub struct Pass {
     pub(crate) board: Arc<Board>,
@@ -40,8 +40,8 @@ impl Model for Pass {
 }
 
 impl Pass {
-    /// Tries to go inside, under the number of an opening (`percpu_ref_tryget_live`). It writes only the
-    /// word of its lane. The pass comes back if its look found that the gate is not open under this number.
+    /// Tries to go inside, under the number of an opening (`percpu_ref_tryget_live`). It writes only the word
+    /// of its lane. If its look found that the gate was not open under this number, the pass is returned.
     pub fn enter(self, number: u64) -> Result<GateCall, Pass>
         ensures same { MatchResult result
             (λ call. (call.seat ≡ self.seat) × (call.lane ≡ self.lane))
@@ -70,11 +70,11 @@ impl Pass {
         Err(Pass { board, seat, lane })
     }
 
-    /// Another pass of the same gate, by the lane of this number, counted from 0 and modulo the number of
-    /// lanes.
+    /// Makes another pass of the same gate. Its lane is `lane` modulo the number of lanes, counted from 0.
     ///
-    /// Refusals, in order: TooManyHolds (the gate has had 2^32 passes), NoMemory (its words can have no owner
-    /// more). After a refusal the gate has had as many passes as before.
+    /// Refusals, in order: TooManyHolds (the gate has had 2^32 - 1 passes, including those that other threads
+    /// are trying to make), NoMemory (its words can have no further owner). After a refusal the gate has had
+    /// as many passes as before.
     pub fn another(&mut self, lane: u64) -> Result<Pass, Refusal>
         ensures same { (self.new.seat ≡ self.old.seat) × (self.new.lane ≡ self.old.lane) }
         ensures gate { IfOk result (λ other. other.seat.gate ≡ self.old.seat.gate) }

@@ -1,4 +1,4 @@
-//! The kinds of step.
+//! The kinds of steps on a gate's words.
 use crate::view::GateView;
 use atomic_table::{Play, Split};
 
@@ -14,7 +14,7 @@ impl Split<GateView> for Passes {
     ghost right = { λ _. Outside };
 }
 
-/// A caller counts one pass more.
+/// A caller counts one more pass.
 pub(crate) struct Counts;
 
 impl Play<(), GateView> for Counts {
@@ -23,7 +23,7 @@ impl Play<(), GateView> for Counts {
     ghost then = { MakesCount };
 }
 
-/// A caller takes that back.
+/// A caller takes the pass that it counted off that count again.
 pub(crate) struct Uncounts;
 
 impl Play<(), GateView> for Uncounts {
@@ -59,7 +59,7 @@ impl Play<(), GateView> for LooksBack {
     ghost then = { MakesLookBack };
 }
 
-/// A caller no longer counts itself.
+/// A caller takes itself off the count of its lane.
 pub(crate) struct Leaves;
 
 impl Play<(), GateView> for Leaves {
@@ -68,7 +68,7 @@ impl Play<(), GateView> for Leaves {
     ghost then = { MakesLeave };
 }
 
-/// A caller who is inside no longer counts itself, and will count itself again.
+/// A caller that is inside takes itself off the count of its lane, and will count itself there again.
 pub(crate) struct Breaks;
 
 impl Play<(), GateView> for Breaks {
@@ -77,7 +77,7 @@ impl Play<(), GateView> for Breaks {
     ghost then = { MakesBreak };
 }
 
-/// It counts itself again.
+/// A caller that broke its protection counts itself in its lane again.
 pub(crate) struct Restores;
 
 impl Play<(), GateView> for Restores {
@@ -113,7 +113,7 @@ impl Play<(), GateView> for Opens {
     ghost then = { MakesOpening };
 }
 
-/// The keeper counts itself among those who sleep, or no longer does.
+/// The keeper counts itself among the threads that sleep, or takes itself off that count.
 pub(crate) struct CountsSleep;
 
 impl Play<(), GateView> for CountsSleep {

@@ -1,5 +1,5 @@
-//! Through a gate by steps that wake nobody. They are for keepers that sleep elsewhere: whoever makes such a
-//! step wakes these, and they look again.
+//! Going through a gate by steps that wake nobody. They are for keepers that sleep elsewhere: whoever makes
+//! such a step must wake them, so that they look again.
 ghost use Rattle.std.specs.Prelude.{◌≡◌, ◌%◌, ◌==◌, ℕ, true, IfOk, IfErr, MatchResult};
 ghost use Rattle.kf_core.specs.Phases.{has_reference};
 ghost use Rattle.kf_core.specs.declared.caller.Phase.TheVariants as phase_of;
@@ -11,7 +11,8 @@ use crate::pass::Pass;
 use kf_core::Phase;
 
 impl Pass {
-    /// As `enter`, but a refusal wakes nobody, although the keeper may have seen the pass in its lane.
+    /// Like `enter`, but a refusal wakes nobody, although the keeper may have seen the pass counted in its
+    /// lane.
     pub fn enter_quiet(self, number: u64) -> Result<GateCall, Pass>
         ensures same { MatchResult result
             (λ call. (call.seat ≡ self.seat) × (call.lane ≡ self.lane))
@@ -42,8 +43,8 @@ impl Pass {
 }
 
 impl GateCall {
-    /// As `leave`, but it wakes nobody: true if the gate was shut when the caller had left its lane, and so
-    /// its keeper may wait for that.
+    /// Like `leave`, but wakes nobody. It returns true if the gate was found shut after the caller had left
+    /// its lane. Then the keeper may be waiting for that.
     ///
     /// Condition: Running or Restored.
     pub fn leave_quiet(self) -> (Pass, bool)

@@ -1,4 +1,5 @@
--- How many nodes are linked: what is made is one more, what is taken out one fewer, and a mark is none.
+-- The number of linked nodes: a creation adds one, an unlink removes one, an activation or doom changes
+-- nothing.
 use Rattle.std.proofs.Common.{◌≡◌, inl, inr, ℕ, suc, ◌+◌, ◌≤◌, refl, ap, sym, subst, arith, ◌∙◌, ◌==◌, Bool, true, false, cond, List, [], ◌∷◌, length, slice_set}
 use Rattle.std.specs.Prelude.{Option, None, Some, Result, Ok, slice_get, is_some, IfOk, ◌&&◌}
 use Rattle.std.proofs.lemmas.Bool.Decides.{eqb_tells}
@@ -64,7 +65,8 @@ same_first None None keeps few = refl
 same_first None (Some s) keeps few = absurd (omega (arith, few))
 same_first (Some r) y keeps few = keeps r refl
 
--- a tree of as many slots and at most as many nodes, which keeps the records of another, is that
+-- if the new tree has as many slots, keeps all records and has at most as many linked nodes, it is the old
+-- tree
 pub kept_all : (old new : Tree) → length new ≡ length old → Keeps old new → linked_count new ≤ linked_count old → new ≡ old
 kept_all [] [] l keeps few = refl
 kept_all [] (y ∷ ys) l keeps few = absurd (omega (arith, l))
@@ -79,7 +81,7 @@ kept_all (x ∷ xs) (y ∷ ys) l keeps few =
     let head = same_first x y (λ r e. same_Some y (Some r) (keeps 0 r (ap Some e))) (omega (arith, few, rest, c, d)) in
     ap (λ z. z ∷ ys) head ∙ ap (λ zs. x ∷ zs) tail
 
--- a node was unlinked
+-- an unlink that returned true leaves one linked node fewer
 pub unlinked_one : (old new : Locked) (key drained : Key) (r : Result Bool Refusal) → r ≡ Ok true
     → IfOk r (λ linked. is_linked old.state.tree drained ≡ linked) → IfOk r (λ linked. UnlinkDone old new drained linked)
     → linked_count new.state.tree + 1 ≡ linked_count old.state.tree
@@ -88,7 +90,7 @@ unlinked_one old new key drained r did linked done =
     let accepted : UnlinkDone old new drained true = subst (λ x. IfOk x (λ linked. UnlinkDone old new drained linked)) did done in
     ap (λ (t : Tree). linked_count t + 1) accepted.changed ∙ unlinked_fewer old.state.tree drained there
 
--- one more of these was unlinked, if each was so far
+-- the number of linked nodes after one more unlink, if this node and each one before it were unlinked
 pub unlinked_more : (n0 n1 n2 held : ℕ) (all one : Bool) (xs ys : List Handle) (h : Handle) → xs ≡ h ∷ ys
     → (all ≡ true → n1 + held ≡ n0 + length xs) → (one ≡ true → n2 + 1 ≡ n1) → (all && one) ≡ true → n2 + held ≡ n0 + length ys
 unlinked_more n0 n1 n2 held all one xs ys h parts before now h' =
@@ -104,7 +106,7 @@ single n h = elim (eqb_tells n 1) [
   | inr e ↦ absurd (let no : (n == 1) ≡ false = e.0 in cc (h, no))
 ]
 
--- the node was the one that was doomed, and was unlinked
+-- if only one node was doomed, and each doomed node was unlinked, one node fewer is linked
 pub one_gone : (n0 n1 n2 held : ℕ) (alone all : Bool) → (alone ≡ true → held ≡ 1) → (all ≡ true → n2 + held ≡ n1) → n1 ≡ n0
     → (alone && all) ≡ true → n2 + 1 ≡ n0
 one_gone n0 n1 n2 held alone all single each same h' =
@@ -113,7 +115,7 @@ one_gone n0 n1 n2 held alone all single each same h' =
     let y = each b.1 in
     omega (arith, x, y, same)
 
--- the files were taken back, and then their directory
+-- if the files and then their directory were taken back, one node fewer is linked for each of them
 pub directory_gone : (n0 n1 n2 files : ℕ) (all one : Bool) → (all ≡ true → n1 + files ≡ n0) → (one ≡ true → n2 + 1 ≡ n1)
     → (all && one) ≡ true → n2 + suc files ≡ n0
 directory_gone n0 n1 n2 files all one before now h' =
@@ -122,14 +124,14 @@ directory_gone n0 n1 n2 files all one before now h' =
     let y = now b.1 in
     omega (arith, x, y)
 
--- if the records stay and as many nodes are linked, the tree is as it was
+-- if all records stay and as many nodes are linked as before, the tree is as it was
 pub room_refused : (old new : Tree) (why refusal : Refusal) → length new ≡ length old → Keeps old new
     → LacksRoom old new why refusal → RoomRefused old new why refusal
 room_refused old new why refusal same keeps (inl slots) =
     inl (slots.0, slots.1, (let count = slots.2 in kept_all old new same keeps (omega (arith, count))))
 room_refused old new why refusal same keeps (inr memory) = inr memory
 
--- what was made since is taken back, or there was no memory for that
+-- the nodes that were made since then were all taken back, or there was no memory
 pub gave_up : (t0 t1 t2 t3 : Tree) (why refusal result : Refusal) (nodes : ℕ) → linked_count t1 ≡ linked_count t0 + nodes
     → LacksRoom t1 t2 why refusal → GaveUp nodes t2 t3 refusal result → LacksRoom t0 t3 why result
 gave_up t0 t1 t2 t3 why refusal result nodes more lacks (inr memory) = inr memory

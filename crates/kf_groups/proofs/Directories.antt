@@ -1,4 +1,5 @@
--- A directory that was made with its groups, and one that was taken back.
+-- A new directory is not activated while its groups are made. Once it is taken back, the tree is as it was,
+-- unless memory was lacking.
 use Rattle.std.proofs.Common.{◌≡◌, ◌⊎◌, ◌+◌, inl, inr, ℕ, false, ap, sym, arith, ◌∙◌, List, length}
 use Rattle.std.specs.Prelude.{Option, Some}
 use Rattle.std.specs.Option.{option_map}
@@ -31,7 +32,7 @@ record_kept old new key r keeps at =
     ap (record_at new) (sym f.1) ∙ in_found new r (keeps r.key.slot r f.0)
 
 module _ (table : TableId) (old empty : Locked) (dir key : Key) (name : List ℕ) (whole : IsWhole table old) (vacant : IsVacant old.master.view key) (made : Created old empty dir name Dir false key) where
-  -- the new directory is not active, also once its groups are made
+  -- the new directory still has the marks of a new node once its groups are made
   pub idle : (new : Tree) → Keeps empty.state.tree new → marks_of new key ≡ Some fresh_marks
   idle new keeps =
       let slot = vacant_slot table old key whole vacant in
@@ -39,7 +40,7 @@ module _ (table : TableId) (old empty : Locked) (dir key : Key) (name : List ℕ
       ap (λ (t : Tree). record_at t key) made.changed ∙ itself_at old.state.tree key dir name Dir false slot in
       ap (λ o. option_map (λ (r : Record). r.marks) o) (record_kept empty.state.tree new key _ keeps at)
 
-  -- one node fewer than with the empty directory, and no other is another: the tree is as it was
+  -- if one node fewer is linked than with the empty directory, and old records stay, the tree is as it was
   same_again : (stopped new : Locked) → stopped.state.tree ≡ empty.state.tree → TookBack stopped new key → Keeps old.state.tree new.state.tree
       → linked_count new.state.tree + 1 ≡ linked_count stopped.state.tree → new.state.tree ≡ old.state.tree
   same_again stopped new same back keeps one =
@@ -49,7 +50,7 @@ module _ (table : TableId) (old empty : Locked) (dir key : Key) (name : List ℕ
       (took stopped new key back ∙ ap length same ∙ created old empty dir key name Dir made)
       keeps (omega (arith, one, more, count))
 
-  -- its groups were refused, and it was taken back
+  -- if the groups were refused and the directory was taken back, the tree is as it was, or memory was lacking
   pub restored : (stopped new : Locked) (groups : List Group) (why refusal : Refusal) → GroupsRefused empty stopped key groups why → TookBack stopped new key
       → Keeps old.state.tree new.state.tree → GaveUp 1 stopped.state.tree new.state.tree why refusal
       → (new.state.tree ≡ old.state.tree) ⊎ (refusal ≡ NoMemory)

@@ -39,7 +39,7 @@ module _ (old held : Locked) (key : Key) (same : held.state ≡ old.state) (word
     inr (held, same, pinned, subst (λ k. DoomRefused held new k refusal) is refused),
   )
 
--- a node of which a hold was taken is linked
+-- a node is linked if a hold of it was taken
 there : (o : Option Record) (n : Node) → option_map (λ (r : Record). r.node) o ≡ Some n → is_some o ≡ true
 there None n h = absurd (none-some n h)
 there (Some r) n h = refl

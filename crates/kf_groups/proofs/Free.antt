@@ -1,4 +1,4 @@
--- Nothing is wrong with the later files, once a file of another name is made.
+-- Once a file is made, nothing is wrong with later files that have other names.
 use Rattle.std.proofs.Common.{◌≡◌, ℕ, zero, suc, refl, ap, sym, ◌∙◌, subst, Bool, true, false, cond, List, [], ◌∷◌, slice_set}
 use Rattle.std.specs.Prelude.{Option, None, Some, slice_get, is_some, not, ◌&&◌, ◌||◌}
 use Rattle.std.specs.List.{find as first}
@@ -51,7 +51,7 @@ past [] i v h = refl
 past (x ∷ xs) zero v h = absurd (none-some x (sym h))
 past (x ∷ xs) (suc i) v h = ap (λ r. x ∷ r) (past xs i v h)
 
--- the test of a record in the directory under the name
+-- whether a slot has a record with this name in this directory
 abbrev pub test : Key → List ℕ → Option Record → Bool
 test dir name = is_under dir (λ (r : Record). bytes_eq r.name name)
 

@@ -1,4 +1,4 @@
--- What a group that was made adds to a directory: entries of its names, and of no other.
+-- Making a group adds entries to a directory only under the group's own names.
 use Rattle.std.proofs.Common.{◌≡◌, ◌⊎◌, inl, inr, ℕ, refl, ap, sym, ◌∙◌, Bool, true, false, cond, List, [], ◌∷◌, ◌++◌}
 use Rattle.std.specs.Prelude.{Option, None, Some, slice_get, not, ◌&&◌, ◌||◌}
 use Rattle.std.specs.Str.{bytes_eq}
@@ -25,14 +25,14 @@ use Rattle.kf_groups.specs.Groups.{makes_by_name}
 use Rattle.kf_groups.specs.Making.{MadeByName, creation, creations, live_creations}
 use Rattle.kf_groups.proofs.Named.{Stands, entry_stands}
 
--- the record was there before, under the same name of the same directory
+-- the tree already had a record in this slot, with the same name in the same directory
 pub record WasThere (t : Tree) (i : ℕ) (r : Record) : Type 0 where
   pub entry : Record
   pub at : slice_get t i ≡ Some (Some entry)
   pub parent : r.parent ≡ entry.parent
   pub name_is : r.name ≡ entry.name
 
--- what was there before one step was there before two
+-- if the record was there before the second of two steps, and then before the first, it was there before both
 on : (t u : Tree) (i : ℕ) (r : Record) (w : WasThere u i r) → WasThere t i w.entry → WasThere t i r
 on t u i r w v = record {
   entry = v.entry;
@@ -91,7 +91,7 @@ creations_from dir (a ∷ attributes) (key ∷ keys) t i r h =
       ]
     ]
 
--- the record is a file of one of these in the directory
+-- the record is in the directory, and has the name of one of these attributes
 abbrev IsFileOf : Key → List Attribute → Record → Type 0
 IsFileOf dir attributes r = (r.parent ≡ Some dir) × (has_name attributes r.name ≡ true)
 
@@ -122,7 +122,7 @@ live_from dir (a ∷ attributes) (key ∷ keys) t i r h =
       ]
     ]
 
--- the record is the group's own directory, or stands in that
+-- the record is the group's own directory, or is in that directory
 abbrev IsOwn : Key → List ℕ → Key → Record → Type 0
 IsOwn dir name key r = ((r.parent ≡ Some dir) × (r.name ≡ name)) ⊎ (r.parent ≡ Some key)
 
@@ -143,7 +143,7 @@ named_from dir name attributes key keys t i r h =
     ]
 
 module _ (old new : TreeLog) (dir key : Key) (attributes : List Attribute) (l : Lawful old.tree old.root) (there : is_linked old.tree dir ≡ true) where
-  -- a record in the directory under a name that the group does not make was there before
+  -- a record in the directory was there before if the group does not make its name
   was_there : (own : Option (Bor (List ℕ))) → MadeByName old new dir attributes own key → (name : List ℕ)
       → makes_by_name attributes own name ≡ false → (s : Stands new.tree dir name) → WasThere old.tree s.slot s.entry
   was_there None made name other s =
@@ -163,7 +163,7 @@ module _ (old new : TreeLog) (dir key : Key) (attributes : List Attribute) (l : 
         | inr w ↦ w
       ]
 
-  -- so the directory has no entry of that name if it had none
+  -- so the directory has no entry with that name if it had none before
   pub no_other : (own : Option (Bor (List ℕ))) → MadeByName old new dir attributes own key → (name : List ℕ)
       → makes_by_name attributes own name ≡ false → has_entry old.tree dir name ≡ false → has_entry new.tree dir name ≡ false
   no_other own made name other none = elim (has_entry new.tree dir name) as (λ b. has_entry new.tree dir name ≡ b → b ≡ false) [

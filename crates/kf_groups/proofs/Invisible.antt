@@ -1,4 +1,4 @@
--- A group of which no attribute has a file makes nothing.
+-- A group makes nothing if none of its attributes has a file.
 use Rattle.std.proofs.Common.{◌≡◌, refl, ap, ◌∙◌, true, false, cond, List, [], ◌∷◌}
 use Rattle.std.specs.Prelude.{◌||◌}
 use Rattle.kf_core.specs.declared.key.Key.{Key}

@@ -1,4 +1,5 @@
--- The activation of a linked node is refused only for memory, a creation with no fault for a slot too.
+-- The activation of a linked node is refused only for lack of memory. A creation without a fault is refused
+-- only for lack of a slot or of memory.
 use Rattle.std.proofs.Common.{◌≡◌, inl, inr, ap, subst, sym, ◌∙◌, ℕ, true, List, [], ◌∷◌}
 use Rattle.std.specs.Prelude.{Option, None, Some, is_some}
 use Rattle.std.proofs.lemmas.Option.{none-some, same_Some}
@@ -21,7 +22,7 @@ activate_lacks old new key refusal there refused = elim refused.named [
   | inr m ↦ m.1
 ]
 
--- no next key, or no memory
+-- if there is no other cause, the refusal is NoSpace, since there is no next key
 lacks_key : (next : Option Key) (refusal : Refusal) → first_cause (None ∷ unless (is_some next) NoSpace ∷ []) ≡ Some refusal → refusal ≡ NoSpace
 lacks_key None refusal h = sym (same_Some NoSpace refusal h)
 lacks_key (Some key) refusal h = absurd (none-some refusal h)

@@ -1,4 +1,4 @@
--- A node that was made in a vacant slot.
+-- A node that is made in a vacant slot was not linked before, and is then found at its key.
 use Rattle.std.proofs.Common.{◌≡◌, ℕ, ap, ◌∙◌, Bool, false, cond, List}
 use Rattle.std.specs.Prelude.{Option, None, Some, slice_get, is_some}
 use Rattle.std.specs.Option.{option_and_then}

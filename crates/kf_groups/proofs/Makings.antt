@@ -1,4 +1,4 @@
--- Files are made one after another, and taken back the last first.
+-- Files are made one after another, and are taken back in reverse order.
 use Rattle.std.proofs.Common.{◌≡◌, ◌≢◌, ◌⊎◌, ◌≤◌, ◌+◌, ◌-◌, ◌∙◌, ℕ, suc, Bool, true, false, cond, List, [], ◌∷◌, ◌++◌, length, take, drop, get_or, ap, refl, sym, subst, inl, inr, arith}
 use Rattle.std.specs.Prelude.{Option, ◌&&◌}
 use Rattle.std.proofs.lemmas.Bool.Decides.{nat_tests}
@@ -20,23 +20,23 @@ use Rattle.kf_tree.specs.Subtrees.{linked_count}
 use Rattle.kf_groups.specs.TakenBack.{EachTookBack, FileMade, FilesTakenBack, LiveTakenBack, NameTookBack, NotActivated, TookBack}
 use Rattle.kf_groups.proofs.Names.{rest_of}
 
--- the node that was made is that of the attribute
+-- if the node that was made is this one, the stored command creates it
 pub created : (old new : Locked) (parent key : Key) (name : List ℕ) (node node' : Node) → node ≡ node'
     → Created old new parent name node false key → Stores old.state new.state (Create key parent name node' false ∷ [])
 created old new parent key name node node' same made =
     subst (λ n. Stores old.state new.state (Create key parent name n false ∷ [])) same
     (one old.state new.state _ (Create key parent name node false) made)
 
--- the file that was made is that of the attribute
+-- if the node that was made is the attribute's file, that file was made
 pub file_made : (old new : Locked) (dir key : Key) (a : Attribute) (node : Node) → node ≡ file_of a
     → Created old new dir a.name.now node false key → FileMade old new dir a key
 file_made old new dir key a node same made = subst (λ n. Created old new dir a.name.now n false key) same made
 
--- what is left behind the first
+-- the attributes after the first
 abbrev pub later : List Attribute → List Attribute
 later attributes = take (length attributes - 1) (drop 1 attributes)
 
--- the first attribute has a file
+-- if the first attribute has a file, it is the first of the attributes that have one
 pub first_shown : (attributes : List Attribute) (d : Attribute) → 1 ≤ length attributes → (get_or attributes 0 d).mode ≢ 0
     → shown attributes ≡ get_or attributes 0 d ∷ shown (later attributes)
 first_shown [] d some there = absurd (omega (arith, some))
@@ -44,7 +44,7 @@ first_shown (a ∷ rest) d some there =
     let here : is_shown a ≡ true = grind (arith, nat_tests) in
     ap (λ b. cond b (a ∷ shown rest) (shown rest)) here ∙ ap (λ xs. a ∷ shown xs) (sym (rest_of (a ∷ rest) 1))
 
--- all files were made
+-- if the first file and then all later ones were made, all files were made
 pub filled : (s0 s1 s2 : TreeLog) (dir key : Key) (attributes : List Attribute) (d : Attribute)
     → 1 ≤ length attributes → (get_or attributes 0 d).mode ≢ 0
     → Stores s0 s1 (creation dir (get_or attributes 0 d) key ∷ [])
@@ -62,7 +62,7 @@ filled s0 s1 s2 dir key attributes d some there created rest =
           created rest.2,
     )
 
--- as many files were made as there are
+-- the number of linked nodes grew by the number of files
 pub one_more : (t0 t1 t2 : Tree) (attributes : List Attribute) (d : Attribute)
     → 1 ≤ length attributes → (get_or attributes 0 d).mode ≢ 0
     → linked_count t1 ≡ linked_count t0 + 1 → linked_count t2 ≡ linked_count t1 + length (shown (later attributes))
@@ -71,7 +71,7 @@ one_more t0 t1 t2 attributes d some there first rest =
     let all : length (shown attributes) ≡ suc (length (shown (later attributes))) = ap length (first_shown attributes d some there) in
     omega (arith, first, rest, all)
 
--- as many were taken back
+-- if all files were taken back, the number of linked nodes fell by the number of files
 pub one_fewer : (t0 t1 t2 : Tree) (attributes : List Attribute) (d : Attribute) (later_gone gone : Bool)
     → 1 ≤ length attributes → (get_or attributes 0 d).mode ≢ 0
     → (later_gone ≡ true → linked_count t1 + length (shown (later attributes)) ≡ linked_count t0)
@@ -84,7 +84,7 @@ one_fewer t0 t1 t2 attributes d later_gone gone some there rest first h =
     let y = first b.1 in
     omega (arith, x, y, all)
 
--- all files were made, and this one was activated
+-- if the first file was made, the later ones made live, and then the first activated, all were made live
 pub made : (s0 s1 s2 s3 : TreeLog) (dir key : Key) (attributes : List Attribute) (d : Attribute)
     (cause : Option Refusal) → 1 ≤ length attributes → (get_or attributes 0 d).mode ≢ 0
     → Stores s0 s1 (creation dir (get_or attributes 0 d) key ∷ [])
@@ -119,25 +119,25 @@ module _ (dir : Key) (attributes : List Attribute) (d : Attribute) (some : 1 ≤
   parts : shown attributes ≡ first ∷ shown (later attributes)
   parts = first_shown attributes d some there
 
-  -- the later files were taken back, and then this one was
+  -- the later files were taken back, and then the first file was
   pub each_more : (s0 s1 s2 : Locked) → EachTookBack s0 s1 dir (shown (later attributes)) → NameTookBack s1 s2 dir first.name.now
       → EachTookBack s0 s2 dir (shown attributes)
   each_more s0 s1 s2 rest back = subst (EachTookBack s0 s2 dir) (sym parts) (s1, rest, back)
 
-  -- the later files were taken back, live ones or not; and then this one was taken back
+  -- the first file was made; then the later files were taken back, live or not, and then the first file was
   pub stopped : (s0 s1 s2 s3 : Locked) (key : Key) (why : Refusal) → FileMade s0 s1 dir first key
       → FilesTakenBack s1 s2 dir (shown (later attributes)) why ⊎ LiveTakenBack s1 s2 dir (shown (later attributes)) why
       → TookBack s2 s3 key → FilesTakenBack s0 s3 dir (shown attributes) why
   stopped s0 s1 s2 s3 key why made rest back =
       subst (λ xs. FilesTakenBack s0 s3 dir xs why) (sym parts) (inr (s1, s2, key, made, rest, back))
 
-  -- this file was refused
+  -- the first file was refused
   pub not_made : (s0 s1 : Locked) (node : Node) (why : Refusal) → node ≡ file_of first → CreateRefused s0 s1 dir first.name.now node why
       → FilesTakenBack s0 s1 dir (shown attributes) why
   not_made s0 s1 node why same refused =
       subst (λ xs. FilesTakenBack s0 s1 dir xs why) (sym parts) (inl (subst (λ n. CreateRefused s0 s1 dir first.name.now n why) same refused))
 
--- the directory with its files was made, and activated
+-- the directory and its files were made, and then the directory was activated
 pub directory_made : (s0 s1 s2 s3 : TreeLog) (dir key : Key) (name : List ℕ) (attributes : List Attribute) (keys : List Key)
     (cause : Option Refusal) → Stores s0 s1 (Create key dir name Dir false ∷ [])
     → Stores s1 s2 (creations key attributes keys) → IsAccepted s2 s3 cause (Activate key)
@@ -147,7 +147,7 @@ directory_made s0 s1 s2 s3 dir key name attributes keys cause created files acti
     created
     (join s1 s2 s3 (creations key attributes keys) (Activate key ∷ []) files (one s2 s3 cause (Activate key) activated))
 
--- the directory and its files were all made, and it was not activated
+-- the directory and all of its files were made, but the directory was not activated
 pub all_made : (s0 s1 s2 : Locked) (key : Key) (attributes : List Attribute) → s2 ≡ s1
     → (keys : List Key) × (length keys ≡ length attributes) × Stores s0.state s1.state (creations key attributes keys)
     → NotActivated s0 s2 key attributes NoMemory

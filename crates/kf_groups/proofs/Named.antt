@@ -26,7 +26,7 @@ place_of p (x ∷ xs) y h = elim (p x) as (λ b. cond b (Some x) (first p xs) �
   | false ↦ λ e. (let f = place_of p xs y e in (suc f.0, f.1))
 ] h
 
--- a record that stands in the directory under the name
+-- a record with this name in this directory, and its slot
 pub record Stands (t : Tree) (dir : Key) (name : List ℕ) : Type 0 where
   pub entry : Record
   pub slot : ℕ
@@ -53,7 +53,7 @@ child_stands t dir name r h = go (first (test dir name) t) refl h
           refl,
         )
 
--- if the directory has an entry of the name, a record stands there
+-- if the directory has an entry with this name, some record has this name there
 pub entry_stands : (t : Tree) (dir : Key) (name : List ℕ) → has_entry t dir name ≡ true → Stands t dir name
 entry_stands t dir name h = go (child t dir name) refl h
   where
@@ -77,7 +77,7 @@ found_stands t dir key name h =
     let e = entry_is (record_at t dir) (child t dir name) key h in
     let s = child_stands t dir name e.0 e.1 in (s.0, ap (λ (r : Record). r.key) s.1 ∙ e.2)
 
--- what a name leads to is no older node, if the directory had no entry of it
+-- if the older tree has no entry with this name, the name leads to a node that is not linked in that tree
 pub found_younger : (base t : Tree) (root dir key : Key) (name : List ℕ) → Lawful t root → Keeps base t → has_entry base dir name ≡ false
     → found t dir name ≡ Ok key → is_linked base key ≡ false
 found_younger base t root dir key name l keeps none h = elim (is_linked base key) as (λ b. is_linked base key ≡ b → b ≡ false) [

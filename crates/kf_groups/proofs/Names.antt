@@ -1,4 +1,4 @@
--- The attributes of a group, looked over one after another.
+-- The attributes of a group are checked one after another.
 use Rattle.std.proofs.Common.{◌≡◌, ℕ, Bool, true, false, cond, List, [], ◌∷◌, ◌+◌, ◌-◌, ◌<◌, add-one, length, take, drop, get_or, ap, refl, ◌∙◌, sym}
 use Rattle.std.specs.Prelude.{Option, None, Some, not, ◌&&◌, ◌||◌, filter}
 use Rattle.std.proofs.lemmas.List.{length-drop}
@@ -22,7 +22,7 @@ pub any_shown : (attributes : List Attribute) (name : List ℕ)
     → list_any (λ a. is_shown a && bytes_eq a.name.now name) attributes ≡ has_name (shown attributes) name
 any_shown attributes name = any_filter (λ a. bytes_eq a.name.now name) is_shown attributes
 
--- nothing is wrong with the first
+-- if nothing is wrong with the first attribute, the cause is that of the later ones
 pub one_more : (fault : Attribute → Option Refusal) (left later : List Attribute) (a : Attribute) → left ≡ a ∷ later
     → shown_cause fault a later ≡ None → files_cause fault (shown left) ≡ files_cause fault (shown later)
 one_more fault left later a parts none = ap (λ xs. files_cause fault (shown xs)) parts ∙ elim (is_shown a) as (λ b.
@@ -42,7 +42,7 @@ one_more fault left later a parts none = ap (λ xs. files_cause fault (shown xs)
         last (Some refusal) = refl
         last None = refl
 
--- this is wrong with the first
+-- if something is wrong with the first attribute, that is the cause
 pub stops : (fault : Attribute → Option Refusal) (left later : List Attribute) (a : Attribute) (refusal : Refusal) → left ≡ a ∷ later
     → shown_cause fault a later ≡ Some refusal → files_cause fault (shown left) ≡ Some refusal
 stops fault left later a refusal parts some = ap (λ xs. files_cause fault (shown xs)) parts ∙ elim (is_shown a) as (λ b.
@@ -58,7 +58,7 @@ stops fault left later a refusal parts some = ap (λ xs. files_cause fault (show
     stopped None (Some other) same = same
     stopped None None given = cc
 
--- what is left from a place on
+-- taking all items that are left from a place on gives the rest of the list from there
 pub rest_of : {X : Type 0} (all : List X) (i : ℕ) → take (length all - i) (drop i all) ≡ drop i all
 rest_of all i = ap (λ n. take n (drop i all)) (sym (length-drop i all)) ∙ take-length (drop i all)
 

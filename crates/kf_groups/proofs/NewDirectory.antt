@@ -1,4 +1,4 @@
--- Nothing is wrong with a file of a lawful name in a directory that is new.
+-- Nothing is wrong with a file in a new directory if its name is lawful.
 use Rattle.std.proofs.Common.{◌≡◌, ℕ, refl, ap, sym, ◌∙◌, true, false, List, [], ◌∷◌}
 use Rattle.std.specs.Prelude.{Option, None, Some, slice_get, is_some, not, ◌&&◌}
 use Rattle.std.specs.List.{find as first}
@@ -38,7 +38,7 @@ module _ (t : Tree) (root key dir : Key) (name : List ℕ) (l : Lawful t root) (
   unlinked : is_linked t key ≡ false
   unlinked = not_linked t key dir name Dir false vacant
 
-  -- no record of the old tree is in it
+  -- no record of the old tree is in the new directory
   nobody : (n : List ℕ) → first (test key n) t ≡ None
   nobody n = go (first (test key n) t) refl
     where
@@ -54,7 +54,7 @@ module _ (t : Tree) (root key dir : Key) (name : List ℕ) (l : Lawful t root) (
           let y = unlinked in
           cc (x, y))
 
-  -- nor is it in itself
+  -- the new directory is not in itself
   outside : (n : List ℕ) → test key n (Some new) ≡ false
   outside n = elim (same_key dir key) as (λ b. same_key dir key ≡ b → (b && bytes_eq name n) ≡ false) [
     | true ↦ λ e. absurd (let x : is_linked t key ≡ true = ap (is_linked t) (sym (same_key_is dir key e)) ∙ linked in let y = unlinked in cc (x, y))

@@ -1,4 +1,4 @@
--- The records of an older tree stay, when what was made since is changed.
+-- The records of an older tree stay as they are when nodes that were made later are changed.
 use Rattle.std.proofs.Common.{◌≡◌, inl, inr, ℕ, zero, suc, refl, ap, sym, subst, arith, ◌∙◌, Bool, true, false, cond, List, [], ◌∷◌, slice_set}
 use Rattle.std.specs.Prelude.{Option, None, Some, slice_get, is_some, not, ◌&&◌, map, All}
 use Rattle.std.specs.Option.{option_map}
@@ -42,7 +42,7 @@ keeps_created t key parent name node live vacant slot r h = elim (eqb_tells slot
 ]
 
 module _ (base : Tree) (root key : Key) (l : Lawful base root) (fresh : is_linked base key ≡ false) where
-  -- no way up from an older record meets the key
+  -- the way up from an older record never meets the new key
   no_way : (t : Tree) → Keeps base t → (n : ℕ) (r : Record) → IsIn base r → ancestor t n r.key ≡ Some key → ⊥
   no_way t keeps zero r i h =
       let there : is_linked base key ≡ true = ap (is_linked base) (sym (same_Some r.key key h)) ∙ ap (λ (o : Option Record). is_some o) (in_found base r i) in
@@ -75,7 +75,7 @@ module _ (base : Tree) (root key : Key) (l : Lawful base root) (fresh : is_linke
   doomed : (t : Tree) → Keeps base t → Keeps base (after t (Doom key))
   doomed t keeps = changed t (λ r. in_subtree t key r.key) doomed_record keeps (apart t keeps)
 
-  -- a node below the key is no older one
+  -- no node in the subtree of the new key is linked in the older tree
   younger : (t : Tree) (k : Key) → Keeps base t → in_subtree t key k ≡ true → is_linked base k ≡ false
   younger t k keeps below = elim (is_linked base k) as (λ b. is_linked base k ≡ b → b ≡ false) [
     | true ↦ λ e. absurd (
@@ -107,7 +107,7 @@ all_unlinked base root (k ∷ keys) t away keeps =
     all_unlinked base root keys (after t (Unlink k)) (λ i d inside. away (suc i) d (omega (arith, inside)))
     (unlinked base t root k (away 0 k (omega arith)) keeps)
 
--- what is taken back is no older node
+-- taking a node back changes no record of a tree in which that node is not linked
 pub took_older : (a b : Locked) (key : Key) → TookBack a b key → KeepsOlder key a.state.tree b.state.tree
 took_older a b key (inl refused) base root l fresh keeps = subst (Keeps base) (sym refused.0.tree) keeps
 took_older a b key (inr took) base root l fresh keeps =

@@ -1,4 +1,4 @@
--- Why a group that nothing is wrong with is refused.
+-- Why a group is refused although nothing is wrong with it.
 use Rattle.std.proofs.Common.{◌≡◌, ℕ, List, inr, subst, sym}
 use Rattle.std.specs.Prelude.{None, Some, Result, Ok, Err, IfErr}
 use denote.Ref.{Bor}

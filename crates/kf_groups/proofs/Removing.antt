@@ -1,5 +1,5 @@
--- What a name leads to in a lawful tree is not the root, so a removal by name is refused only for other
--- reasons.
+-- In a lawful tree a name never leads to the root, so a removal by name is never refused because the node is
+-- the root.
 use Rattle.std.proofs.Common.{◌≡◌, ◌≢◌, ◌⊎◌, inl, inr, refl, ap, sym, ◌∙◌, ℕ, Bool, true, false, List, [], ◌∷◌}
 use Rattle.std.specs.Prelude.{Option, None, Some, Result, Ok, Err, not, slice_get, if◌then◌else◌}
 use Rattle.std.specs.Option.{option_and_then, ok_or}
@@ -22,7 +22,7 @@ use Rattle.kf_shared.specs.Receipts.{KeyRefused, NamedRefused}
 use Rattle.kf_groups.specs.Removals.{NameRefusal}
 use Rattle.kf_groups.proofs.Named.{found_stands}
 
--- the root has no parent, and what a name leads to has one
+-- a name does not lead to the root, since the root has no parent
 below : (t : Tree) (root dir key : Key) (name : List ℕ) → Lawful t root → found t dir name ≡ Ok key → key ≢ root
 below t root dir key name l h same =
     let s = found_stands t dir key name h in
@@ -31,7 +31,7 @@ below t root dir key name l h same =
     let top : s.0.entry.parent ≡ None = ap (λ (o : Option (Option Record)). option_and_then (λ (x : Record). x.parent) (option_and_then (λ place. place) o)) both in
     none-some dir (sym top ∙ s.0.parent)
 
--- of another key than the root's, not being linked is all that stands against its doom
+-- if the key is not the root's, its removal is refused only for one of the reasons of `NameRefusal`
 key_refusal : (s : TreeLog) (key : Key) (why : Refusal) → key ≢ s.root → KeyRefused s key why → NameRefusal why
 key_refusal s key why other (inr held) = inr (inr held.1)
 key_refusal s key why other (inl cause) = go (is_linked s.tree key) (same_key key s.root) refl cause
@@ -41,7 +41,7 @@ key_refusal s key why other (inl cause) = go (is_linked s.tree key) (same_key ke
     go true true e c = absurd (other (same_key_is key s.root e))
     go true false e c = absurd (none-some why c)
 
--- the refusal, if it is one
+-- the refusal in this result; NoEntry if there is none
 abbrev told : Result Key Refusal → Refusal
 told (Ok key) = NoEntry
 told (Err refusal) = refusal
@@ -50,7 +50,7 @@ no_entry : (entry : Option Record) (why : Refusal) → ok_or (option_and_then (�
 no_entry None why h = ap told h
 no_entry (Some r) why h = absurd (let never : Ok r.key ≡ Err why = h in cc)
 
--- a name leads to nothing, or its directory is none
+-- if a name leads to no key, the refusal is NoEntry or NotDir
 entry_fault : (dir entry : Option Record) (why : Refusal) → entry_key dir entry ≡ Err why → (why ≡ NoEntry) ⊎ (why ≡ NotDir)
 entry_fault None entry why h = inl (sym (ap told h))
 entry_fault (Some dir) entry why h = elim (is_dir dir.node) as (λ b. (if b then ok_or (option_and_then (λ (r : Record). Some r.key) entry) NoEntry else Err NotDir) ≡ Err why → (why ≡ NoEntry) ⊎ (why ≡ NotDir)) [
@@ -62,7 +62,7 @@ fault_refusal : (fault why : Refusal) → fault ≡ why → (fault ≡ NoEntry) 
 fault_refusal fault why same (inl e) = inl (sym same ∙ e)
 fault_refusal fault why same (inr e) = inr (inl (sym same ∙ e))
 
--- why what has a name in a directory was not removed
+-- if a removal by name is refused, it is for one of the reasons of `NameRefusal`
 pub name_refusal : (table : TableId) (s : Locked) (dir : Key) (name : List ℕ) (why : Refusal) → IsWhole table s
     → NamedRefused s.state (found s.state.tree dir name) why → NameRefusal why
 name_refusal table s dir name why whole h = go (found s.state.tree dir name) refl h

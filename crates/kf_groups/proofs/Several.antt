@@ -1,4 +1,4 @@
--- Nothing is wrong with the later groups, once one that makes no entry of theirs is made.
+-- Once a group is made, nothing is wrong with the later groups if it made none of their entries.
 use Rattle.std.proofs.Common.{◌≡◌, ◌≤◌, ◌+◌, ◌-◌, inl, inr, ℕ, refl, ap, sym, ◌∙◌, subst, arith, Bool, true, false, List, [], ◌∷◌, length, take, drop, get_or}
 use Rattle.std.specs.Prelude.{Option, None, Some, Result, Ok, Err, IfErr, is_some, not, slice_get}
 use Rattle.std.specs.List.{list_any}
@@ -85,7 +85,7 @@ both_none a b ha hb = rw ha (rw hb refl)
 -- ---- one node
 
 module _ (old new : Tree) (root dir : Key) (keeps : Keeps old new) (node : Node) (untargeted : (t : Tree) → target_fault t root (target_of node) ≡ None) where
-  -- nothing is wrong with a node of a name of which there is still no entry
+  -- if nothing was wrong with a node, and there is no entry with its name yet, nothing is wrong with it
   still_right : (name : List ℕ) → create_fault old root dir name node ≡ None → has_entry new dir name ≡ false → create_fault new root dir name node ≡ None
   still_right name free none =
       let c = six (unless (is_linked old dir) NoEntry) (name_fault name) (unless (is_directory old dir) NotDir)
@@ -111,7 +111,7 @@ module _ (old new : Tree) (root dir : Key) (keeps : Keeps old new) (node : Node)
 
 -- ---- groups
 
--- a directory stays one
+-- a directory is still a directory
 still_dir : (old new : Tree) (dir : Key) → Keeps old new → list_cause old dir ≡ None → list_cause new dir ≡ None
 still_dir old new dir keeps free =
     let c = two (unless (is_linked old dir) NoEntry) (unless (is_directory old dir) NotDir) free in
@@ -123,7 +123,7 @@ still_dir old new dir keeps free =
     (ap (λ (o : Option Record). unless (is_some o) NoEntry) same ∙ c.0)
     (ap (λ (o : Option Record). unless (option_map_or (λ r. is_dir r.node) o false) NotDir) same ∙ c.1)
 
--- the directory of a group that nothing is wrong with is linked; or the group is none
+-- if nothing is wrong with a new node, its directory is linked
 either_linked : (t : Tree) (root dir : Key) (name : List ℕ) (node : Node) → create_fault t root dir name node ≡ None → is_linked t dir ≡ true
 either_linked t root dir name node free =
     passed (is_linked t dir) NoEntry (six (unless (is_linked t dir) NoEntry) (name_fault name) (unless (is_directory t dir) NotDir)
@@ -133,7 +133,7 @@ module _ (old new : TreeLog) (dir key : Key) (group : Group) (l : Lawful old.tre
   abbrev own : List ℕ → Bool
   own name = makes name group
 
-  -- a node of another name
+  -- nothing is wrong with a node if the group does not make its name
   apart : (name : List ℕ) (node : Node) → ((t : Tree) → target_fault t root (target_of node) ≡ None) → own name ≡ false
       → create_fault old.tree root dir name node ≡ None → create_fault new.tree root dir name node ≡ None
   apart name node untargeted other free =
@@ -151,7 +151,8 @@ module _ (old new : TreeLog) (dir key : Key) (group : Group) (l : Lawful old.tre
       joined (file_fault new.tree root (Some dir) a) taken (files_cause (file_fault new.tree root (Some dir)) attributes)
       (apart a.name.now (file_of a) (λ t. refl) o.0 c.0) c.1 (files_apart attributes o.1 c.2)
 
-  -- the names of files in a directory that is new are lawful whichever the tree
+  -- if nothing is wrong with the files of a directory that is still to be made, nothing is wrong with them in
+  -- the new tree
   names_right : (attributes : List Attribute) → files_cause (file_fault old.tree root None) attributes ≡ None → files_cause (file_fault new.tree root None) attributes ≡ None
   names_right [] free = refl
   names_right (a ∷ attributes) free =
@@ -184,7 +185,7 @@ made_stores : (old new : TreeLog) (dir key : Key) (attributes : List Attribute) 
 made_stores old new dir key attributes None made = (_, made.1.2)
 made_stores old new dir key attributes (Some own) made = (_, made.1.2)
 
--- what is behind the first
+-- the groups after the first
 abbrev pub others_of : List Group → List Group
 others_of groups = take (length groups - 1) (drop 1 groups)
 
@@ -198,7 +199,7 @@ module _ (groups : List Group) (d : Group) (some : 1 ≤ length groups) where
   parts : groups ≡ first ∷ rest
   parts = first_and_later groups d some
 
-  -- nothing is wrong with the first, nor with the others
+  -- nothing is wrong with the first group or with the others, and the first shares no entry with the others
   apart_free : (t : Tree) (root dir : Key) → groups_cause t root dir groups ≡ None
       → (group_cause t root dir first ≡ None) × (clashes rest first ≡ false) × (groups_cause t root dir rest ≡ None)
   apart_free t root dir free =
@@ -206,7 +207,7 @@ module _ (groups : List Group) (d : Group) (some : 1 ≤ length groups) where
       (subst (λ gs. groups_cause t root dir gs ≡ None) parts free) in
       (c.0, not_passed (clashes rest first) Exists c.1, c.2)
 
-  -- nor with these once it is made
+  -- nothing is wrong with the other groups once the first is made
   pub others_free : (old new : TreeLog) (dir key : Key) → Lawful old.tree old.root → Keeps old.tree new.tree → GroupMade old new dir first key
       → groups_cause old.tree old.root dir groups ≡ None → groups_cause new.tree new.root dir rest ≡ None
   others_free old new dir key l keeps made free =
@@ -242,7 +243,7 @@ module _ (groups : List Group) (d : Group) (some : 1 ≤ length groups) where
   later_refused old made stopped new dir key why first_made others back =
       subst (λ gs. GroupsTakenBack old new dir gs why) (sym parts) (inr (made, stopped, key, first_made, others, back))
 
--- nothing of a group was there before it was made
+-- no node of a group was there before the group was made
 pub without_before : (old new : TreeLog) (dir key : Key) (group : Group) → GroupMade old new dir group key
     → IsWithout old.tree dir key (shown group.attributes.now) (own_name group)
 without_before old new dir key group made = go (own_name group) made.no_cause made.made

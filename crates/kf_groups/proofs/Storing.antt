@@ -1,4 +1,4 @@
--- What is stored of the unlink of a drained node.
+-- What the unlink of a drained node stores.
 use Rattle.std.proofs.Common.{◌≡◌, Bool, true, false, List, [], ◌∷◌, ap, inl, inr}
 use Rattle.std.specs.Prelude.{map, All, Result, Ok, Err, IfOk, IfErr}
 use Rattle.std.proofs.lemmas.List.Elements.{All-nil, All-cons}
@@ -9,7 +9,7 @@ use Rattle.kf_tree.specs.TreeLogs.{Stores}
 use Rattle.kf_tree.proofs.Storing.{none, none_same, one}
 use Rattle.kf_shared.specs.Locked.{Locked, UnlinkDone, UnlinkRefused}
 
--- that, or nothing
+-- the unlink is stored, or nothing is
 pub unlinks : (old new : Locked) (key drained : Key) (r : Result Bool Refusal) → drained ≡ key
     → IfOk r (λ unlinked. UnlinkDone old new drained unlinked)
     → IfErr r (λ refusal. UnlinkRefused old new drained refusal)

@@ -1,4 +1,4 @@
--- What holds of the later files, once the first is made; and of the files of a directory, once it is made.
+-- What is true of the later files once the first is made, and of the files of a directory once it is made.
 use Rattle.std.proofs.Common.{◌≡◌, ◌≢◌, ◌≤◌, ◌+◌, ◌∙◌, ℕ, ap, sym, subst, true, false, List, [], ◌∷◌, length, get_or}
 use Rattle.std.specs.Prelude.{Option, None, Some, not, is_some, slice_get}
 use Rattle.kf_core.specs.declared.command.Command.TheVariants.{Create, Activate}
@@ -30,7 +30,7 @@ use Rattle.kf_groups.proofs.Older.{activated, keeps_created, keeps_on}
 use Rattle.kf_groups.proofs.Makings.{first_shown, later}
 use Rattle.kf_groups.proofs.NewDirectory.{all_free}
 
--- nothing is wrong with these files of the directory
+-- nothing is wrong with the files of these attributes in the directory
 abbrev pub AreFree : TreeLog → Key → List Attribute → Type 0
 AreFree s dir attributes = files_cause (file_fault s.tree s.root (Some dir)) attributes ≡ None
 
@@ -83,12 +83,12 @@ module _ (table : TableId) (s0 s1 : Locked) (dir key : Key) (name : List ℕ) (n
   pub fresh : is_linked s0.state.tree key ≡ false
   fresh = not_linked s0.state.tree key dir name node false slot
 
-  -- what was there before stays, if the node is taken back
+  -- what was there before stays if the node is taken back
   pub stays : (t2 t3 : Tree) → Keeps s1.state.tree t2 → KeepsOlder key t2 t3 → Keeps s0.state.tree t3
   stays t2 t3 since older = older s0.state.tree s0.state.root whole.kept.lawful fresh
       (keeps_on s0.state.tree s1.state.tree t2 made_keeps since)
 
-  -- or activated
+  -- what was there before stays if the node is activated
   pub stays_activated : (s2 s3 : TreeLog) (cause : Option Refusal) → Keeps s1.state.tree s2.tree → IsAccepted s2 s3 cause (Activate key)
       → Keeps s0.state.tree s3.tree
   stays_activated s2 s3 cause since accepted = subst (Keeps s0.state.tree) (sym accepted.changed)
@@ -98,7 +98,7 @@ module _ (table : TableId) (s0 s1 : Locked) (dir key : Key) (name : List ℕ) (n
 pub activated_count : (s2 s3 : TreeLog) (cause : Option Refusal) (key : Key) → IsAccepted s2 s3 cause (Activate key) → linked_count s3.tree ≡ linked_count s2.tree
 activated_count s2 s3 cause key accepted = ap (λ (t : Tree). linked_count t) accepted.changed ∙ activated_same s2.tree key
 
--- no file of these names is there, where nothing is wrong with them
+-- if nothing is wrong with these files, the directory has no entry with their names
 pub none_yet : (s : TreeLog) (dir : Key) (attributes : List Attribute) → AreFree s dir attributes → HasNone s.tree dir attributes
 none_yet s dir [] free = tt
 none_yet s dir (a ∷ attributes) free =
@@ -109,7 +109,7 @@ none_yet s dir (a ∷ attributes) free =
       none_yet s dir attributes c.2,
     )
 
--- nor of the names of the later ones
+-- the directory has no entry with the names of the later files either
 pub later_none : (s : TreeLog) (dir : Key) (attributes : List Attribute) (d : Attribute) → 1 ≤ length attributes → (get_or attributes 0 d).mode ≢ 0
     → AreFree s dir (shown attributes) → HasNone s.tree dir (shown (later attributes))
 later_none s dir attributes d some there free =

@@ -1,4 +1,4 @@
--- Which files a group has, and why it is refused.
+-- Which files a group has, and why the group is refused.
 use Rattle.std.specs.Prelude.{◌≡◌, ℕ, suc, Bool, false, not, ◌==◌, List, [], ◌∷◌, length, filter, Option, None, Some, if◌then◌else◌}
 use Rattle.std.specs.List.{list_any}
 use Rattle.std.specs.Str.{bytes_eq}
@@ -15,11 +15,11 @@ use Rattle.kf_tree.specs.Causes.{create_fault, has_entry, list_cause}
 use Rattle.kf_groups.specs.declared.attribute.Attribute.{Attribute}
 use Rattle.kf_groups.specs.declared.attribute.Group.{Group}
 
--- whether there is a file of the attribute
+-- whether the attribute has a file
 abbrev pub is_shown : Attribute → Bool
 is_shown attribute = not (attribute.mode == 0)
 
--- the attributes of which there are files
+-- the attributes that have a file
 abbrev pub shown : List Attribute → List Attribute
 shown attributes = filter is_shown attributes
 
@@ -31,14 +31,14 @@ file_of attribute = File attribute.mode attribute.tag
 abbrev pub has_name : List Attribute → List ℕ → Bool
 has_name attributes name = list_any (λ attribute. bytes_eq attribute.name.now name) attributes
 
--- the directory has no entry of the name of any of these
+-- the directory has no entry with the name of any of these attributes
 abbrev pub HasNone : Tree → Key → List Attribute → Type 0
 HasNone t dir [] = Unit {0}
 HasNone t dir (attribute ∷ attributes) =
     (has_entry t dir attribute.name.now ≡ false) × HasNone t dir attributes
 
--- why these files are refused: of one after the other what is wrong with it, and that a later one has its
--- name
+-- why these files are refused: for one after another, what is wrong with it, and then that a later one has
+-- the same name
 abbrev pub files_cause : (Attribute → Option Refusal) → List Attribute → Option Refusal
 files_cause fault [] = None
 files_cause fault (attribute ∷ attributes) = first_cause (
@@ -47,27 +47,27 @@ files_cause fault (attribute ∷ attributes) = first_cause (
     ∷ files_cause fault attributes
     ∷ [])
 
--- why the file of this attribute is refused, if there is one and these come later
+-- why the file of this attribute is refused, if it has one; the other attributes come later
 abbrev pub shown_cause : (Attribute → Option Refusal) → Attribute → List Attribute → Option Refusal
 shown_cause fault attribute later = if is_shown attribute
     then first_cause (fault attribute ∷ unless (not (has_name (shown later) attribute.name.now)) Exists ∷ [])
     else None
 
--- what is wrong with a file: in this directory, or in a new one (None)
+-- what is wrong with a file in this directory, or in a new one (None)
 abbrev pub file_fault : Tree → Key → Option Key → Attribute → Option Refusal
 file_fault t root None attribute = name_fault attribute.name.now
 file_fault t root (Some dir) attribute = create_fault t root dir attribute.name.now (file_of attribute)
 
--- whether there is a file of one of the attributes
+-- whether one of the attributes has a file
 abbrev pub has_files : List Attribute → Bool
 has_files attributes = list_any is_shown attributes
 
--- the name of the directory that a group makes for its files: none, if the group has no name or no file
+-- the name of the directory that a group makes for its files, or None if the group has no name or no file
 abbrev pub own_name : Group → Option (Bor (List ℕ))
 own_name group = if has_files group.attributes.now then group.name else None
 
--- what is wrong with the group's own directory or, if it has none, with the one that its files are to stand
--- in; and with its files
+-- what is wrong with the group's own directory or, if it makes none, with the directory in which its files
+-- are to be made; and then what is wrong with its files
 abbrev pub cause_by_name : Tree → Key → Key → List Attribute → Option (Bor (List ℕ)) → Option Refusal
 cause_by_name t root dir attributes None = first_cause (
     list_cause t dir
@@ -78,11 +78,11 @@ cause_by_name t root dir attributes (Some name) = first_cause (
     ∷ files_cause (file_fault t root None) (shown attributes)
     ∷ [])
 
--- why a group is refused, lack of slots and memory aside
+-- why a group is refused, apart from a lack of slots or memory
 abbrev pub group_cause : Tree → Key → Key → Group → Option Refusal
 group_cause t root dir group = cause_by_name t root dir group.attributes.now (own_name group)
 
--- how many nodes the group is: its files, and its directory, if it makes one
+-- how many nodes the group has: its files, and its own directory, if it makes one
 abbrev pub size_by_name : ℕ → Option (Bor (List ℕ)) → ℕ
 size_by_name files None = files
 size_by_name files (Some name) = suc files

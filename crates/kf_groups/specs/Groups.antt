@@ -1,4 +1,4 @@
--- Several groups of one directory, and what is made and taken back of them.
+-- Several groups in one directory, and what is made of them and taken back.
 use Rattle.std.specs.Prelude.{◌≡◌, ◌⊎◌, ◌+◌, ℕ, Bool, false, not, List, [], ◌∷◌, Option, None, Some}
 use Rattle.std.specs.List.{list_any}
 use Rattle.std.specs.Str.{bytes_eq}
@@ -24,7 +24,8 @@ makes_by_name attributes (Some own) name = bytes_eq own.now name
 abbrev pub makes : List ℕ → Group → Bool
 makes name group = makes_by_name (shown group.attributes.now) (own_name group) name
 
--- whether it makes an entry that this group makes too
+-- whether the other group, with these files and this directory (if it makes one), makes an entry with a name
+-- that this group makes too
 abbrev pub shares_by_name : Group → List Attribute → Option (Bor (List ℕ)) → Bool
 shares_by_name group attributes None = list_any (λ attribute. makes attribute.name.now group) attributes
 shares_by_name group attributes (Some own) = makes own.now group
@@ -32,12 +33,12 @@ shares_by_name group attributes (Some own) = makes own.now group
 abbrev pub shares : Group → Group → Bool
 shares group other = shares_by_name group (shown other.attributes.now) (own_name other)
 
--- whether one of the others does
+-- whether one of the others makes an entry with a name that this group makes too
 abbrev pub clashes : List Group → Group → Bool
 clashes others group = list_any (shares group) others
 
--- why the groups are refused: of one after the other what is wrong with it, and that a later one makes an
--- entry of the same name
+-- why the groups are refused: for one after another, what is wrong with it, and then that a later one makes
+-- an entry of the same name
 abbrev pub groups_cause : Tree → Key → Key → List Group → Option Refusal
 groups_cause t root dir [] = None
 groups_cause t root dir (group ∷ groups) = first_cause (
@@ -46,7 +47,7 @@ groups_cause t root dir (group ∷ groups) = first_cause (
     ∷ groups_cause t root dir groups
     ∷ [])
 
--- how many nodes the groups are
+-- how many nodes the groups have together
 abbrev pub groups_size : List Group → ℕ
 groups_size [] = 0
 groups_size (group ∷ groups) = group_size group + groups_size groups
@@ -57,19 +58,21 @@ GroupsMade old new dir [] = new ≡ old
 GroupsMade old new dir (group ∷ groups) = (made : TreeLog) × (key : Key)
     × GroupMade old made dir group key × GroupsMade made new dir groups
 
--- a tree in which nothing of the group is
+-- the tree has no entry with the name of any of the group's files; or, if the group makes its own directory,
+-- this key is not linked
 abbrev pub IsWithout : Tree → Key → Key → List Attribute → Option (Bor (List ℕ)) → Type 0
 IsWithout t dir key attributes None = HasNone t dir attributes
 IsWithout t dir key attributes (Some own) = is_linked t key ≡ false
 
--- a group that was made was taken back: its files, the last first, and then its own directory
+-- a group that was made was taken back: its files, the last one first, and then its own directory, if it has
+-- one
 abbrev pub GroupTakenBack : Locked → Locked → Key → Key → List Attribute → Option (Bor (List ℕ)) → Type 0
 GroupTakenBack old new dir key attributes None = EachTookBack old new dir attributes
 GroupTakenBack old new dir key attributes (Some own) =
     (between : Locked) × EachTookBack old between key attributes × TookBack between new key
 
 -- one of the groups was not made, for this reason, and what was made of it was taken back; then each group
--- before it was, the last first
+-- before it was taken back, the last one first
 abbrev pub GroupsTakenBack : Locked → Locked → Key → List Group → Refusal → Type 0
 GroupsTakenBack old new dir [] why = ⊥
 GroupsTakenBack old new dir (group ∷ groups) why =
@@ -78,8 +81,8 @@ GroupsTakenBack old new dir (group ∷ groups) why =
     × GroupsTakenBack made stopped dir groups why
     × GroupTakenBack stopped new dir key (shown group.attributes.now) (own_name group))
 
--- there was this against the groups, and nothing changed; or there was not, and for lack of a slot or of
--- memory what was made of them was taken back, all but nodes whose removal was refused
+-- there was this cause to refuse the groups, and nothing changed; or there was none. Then a slot or memory
+-- was lacking, and what was made of them was taken back, except for nodes whose removal was refused
 abbrev pub GroupsRefused : Locked → Locked → Key → List Group → Refusal → Type 0
 GroupsRefused old new dir groups refusal =
     ((groups_cause old.state.tree old.state.root dir groups ≡ Some refusal) × (new ≡ old))

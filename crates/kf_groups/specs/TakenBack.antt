@@ -1,4 +1,5 @@
--- What was made of a group is taken back, and why: each step between what the lock kept before it and after.
+-- What was made of a group is taken back, and why. Each step relates what the lock guarded before it to what
+-- the lock guarded after it.
 use Rattle.std.specs.Prelude.{◌≡◌, ◌⊎◌, ◌+◌, ℕ, false, List, [], ◌∷◌, length, map, All, Contains, Option, None, Some, IfOk, OnErr}
 use denote.Ref.{Bor}
 use Rattle.kf_core.specs.declared.command.Command.TheVariants.{Doom, Unlink}
@@ -19,30 +20,30 @@ use Rattle.kf_groups.specs.Attributes.{file_of, group_cause, own_name, shown}
 use Rattle.kf_groups.specs.Making.{creations, live_creations}
 use Rattle.kf_tree.specs.Subtrees.{linked_count}
 
--- there was no slot, for this reason, and as many nodes are linked as before; or there was no memory
+-- the refusal and the reason are NoSpace, and as many nodes are linked as before; or the refusal is NoMemory
 abbrev pub LacksRoom : Tree → Tree → Refusal → Refusal → Type 0
 LacksRoom old new why refusal =
     ((refusal ≡ NoSpace) × (why ≡ NoSpace) × (linked_count new ≡ linked_count old)) ⊎ (refusal ≡ NoMemory)
 
--- there was no slot, for this reason, and the tree is as it was; or there was no memory, be it to take back
--- what was made
+-- the refusal and the reason are NoSpace, and the tree is as it was; or the refusal is NoMemory, even if
+-- memory was lacking only to take back what was made
 abbrev pub RoomRefused : Tree → Tree → Refusal → Refusal → Type 0
 RoomRefused old new why refusal =
     ((refusal ≡ NoSpace) × (why ≡ NoSpace) × (new ≡ old)) ⊎ (refusal ≡ NoMemory)
 
--- this was the reason, and this many nodes fewer are linked; or there was no memory
+-- the result is this refusal, and this many nodes fewer are linked; or the result is NoMemory
 abbrev pub GaveUp : ℕ → Tree → Tree → Refusal → Refusal → Type 0
 GaveUp nodes old new refusal result =
     ((result ≡ refusal) × (linked_count new + nodes ≡ linked_count old)) ⊎ (result ≡ NoMemory)
 
--- the removal of the node was refused, and nothing was stored: a hold of it was refused; or one was counted,
--- and then the doom was refused
+-- the removal of the node was refused, and no command was stored: a hold of the node was refused; or a hold
+-- was counted, and then the doom was refused
 abbrev pub TakeBackRefused : Locked → Locked → Key → Type 0
 TakeBackRefused old new key = Unchanged old new × (refusal : Refusal) × (HoldRefused old new key refusal
     ⊎ ((held : Locked) × (held.state ≡ old.state) × WasPinned old.master.view key.slot held.master.view
     × DoomRefused held new key refusal))
 
--- the node was doomed with all below it, and some of these were unlinked
+-- the node was doomed with all below it, and then some of these nodes were unlinked
 abbrev pub DoomedAndUnlinked : Locked → Locked → Key → Type 0
 DoomedAndUnlinked old new key = (order unlinked : List Key) × IsPostOrder old.state.tree key order
     × All (Contains order) unlinked × Stores old.state new.state (Doom key ∷ map Unlink unlinked)
@@ -51,23 +52,25 @@ DoomedAndUnlinked old new key = (order unlinked : List Key) × IsPostOrder old.s
 abbrev pub TookBack : Locked → Locked → Key → Type 0
 TookBack old new key = TakeBackRefused old new key ⊎ DoomedAndUnlinked old new key
 
--- the node that stands in the directory under this name, live or not, was taken back; if none does,
--- nothing was done
+-- the node that has this name in the directory, live or not, was taken back, or its removal was refused; if
+-- there is no such node, nothing was done
 abbrev pub NameTookBack : Locked → Locked → Key → List ℕ → Type 0
 NameTookBack old new dir name = IfOk (found old.state.tree dir name) (λ key. TookBack old new key)
     × OnErr (found old.state.tree dir name) (new ≡ old)
 
--- the files of these attributes were taken back, each as it then stood in the directory, the last first
+-- the files of these attributes were taken back, the last one first, each by the name that it had in the
+-- directory at that moment
 abbrev pub EachTookBack : Locked → Locked → Key → List Attribute → Type 0
 EachTookBack old new dir [] = new ≡ old
 EachTookBack old new dir (attribute ∷ attributes) = (between : Locked)
     × EachTookBack old between dir attributes × NameTookBack between new dir attribute.name.now
 
--- the file of the attribute was made under the key, not live
+-- the file of the attribute was made under the key, not yet live
 abbrev pub FileMade : Locked → Locked → Key → Attribute → Key → Type 0
 FileMade old new dir attribute key = Created old new dir attribute.name.now (file_of attribute) false key
 
--- files were all made and activated; for lack of memory to activate an earlier one they were taken back
+-- the files were all made and activated, and then taken back, because there was no memory to activate an
+-- earlier file
 abbrev pub LiveTakenBack : Locked → Locked → Key → List Attribute → Refusal → Type 0
 LiveTakenBack old new dir attributes why = (why ≡ NoMemory) × (live : Locked)
     × ((keys : List Key) × (length keys ≡ length attributes)
@@ -75,7 +78,8 @@ LiveTakenBack old new dir attributes why = (why ≡ NoMemory) × (live : Locked)
     × EachTookBack live new dir attributes
 
 -- the first of these files was refused, for this reason; or it was made, and for this reason a later one was
--- refused or this one not activated; then each that was made was taken back, the last first
+-- refused or the first was not activated. In the second case each file that was made was then taken back, the
+-- last one first
 abbrev pub FilesTakenBack : Locked → Locked → Key → List Attribute → Refusal → Type 0
 FilesTakenBack old new dir [] why = ⊥
 FilesTakenBack old new dir (attribute ∷ attributes) why =
@@ -84,28 +88,29 @@ FilesTakenBack old new dir (attribute ∷ attributes) why =
     × (FilesTakenBack made stopped dir attributes why ⊎ LiveTakenBack made stopped dir attributes why)
     × TookBack stopped new key)
 
--- files were all made, and their directory was not activated for lack of memory
+-- the files were all made, but their directory was not activated, for lack of memory
 abbrev pub NotActivated : Locked → Locked → Key → List Attribute → Refusal → Type 0
 NotActivated old new key attributes why = (why ≡ NoMemory) × (keys : List Key)
     × (length keys ≡ length attributes) × Stores old.state new.state (creations key attributes keys)
 
--- the directory was refused, for this reason; or it was made, and for this reason a file of it was refused or
--- it was not activated; then it was taken back, the files first that were made until one was refused
+-- the directory was refused, for this reason; or it was made, and for this reason one of its files was
+-- refused or the directory was not activated. In the second case the directory was then taken back, after
+-- the files that were made before one was refused
 abbrev pub DirectoryTakenBack : Locked → Locked → Key → List ℕ → List Attribute → Refusal → Type 0
 DirectoryTakenBack old new dir name attributes why = CreateRefused old new dir name Dir why
     ⊎ ((made stopped : Locked) × (key : Key) × Created old made dir name Dir false key
     × (FilesTakenBack made stopped key attributes why ⊎ NotActivated made stopped key attributes why)
     × TookBack stopped new key)
 
--- a group was not made, for this reason, and each node that was made of it was taken back, or its removal
--- refused
+-- a group was not made, for this reason, and each of its nodes that was made was taken back, or the removal
+-- of that node was refused
 abbrev pub TakenBackByName : Locked → Locked → Key → List Attribute → Option (Bor (List ℕ)) → Refusal → Type 0
 TakenBackByName old new dir attributes None why = FilesTakenBack old new dir attributes why
 TakenBackByName old new dir attributes (Some name) why =
     DirectoryTakenBack old new dir name.now attributes why
 
--- there was this against the group, and nothing changed; or there was not, and for lack of a slot or of
--- memory what was made of it was taken back, all but nodes whose removal was refused
+-- there was this cause to refuse the group, and nothing changed; or there was none. Then a slot or memory was
+-- lacking, and what was made of it was taken back, except for nodes whose removal was refused
 abbrev pub GroupRefused : Locked → Locked → Key → Group → Refusal → Type 0
 GroupRefused old new dir group refusal =
     ((group_cause old.state.tree old.state.root dir group ≡ Some refusal) × (new ≡ old))

@@ -1,12 +1,12 @@
-//! Attributes and their groups, as a driver writes them down.
+//! Attributes and groups, as a driver declares them.
 ghost use Rattle.std.specs.Prelude.{◌≡◌};
 ghost use Rattle.kf_groups.specs.Modes.{IsMode};
 
-/// The attribute of this name and mode, and of this tag or else 0, as a value of a constant (`__ATTR`):
-/// `attribute!(b"temp", 0o444)`, `attribute!(b"temp", 0o444, TEMP)`. A `const` may call no function, but it
-/// may use this macro, and the checker knows the constant's mode.
+/// Makes an attribute of this name and mode, with this tag or else the tag 0, as the value of a constant
+/// (`__ATTR`). Examples are `attribute!(b"temp", 0o444)` and `attribute!(b"temp", 0o444, TEMP)`. A `const`
+/// cannot call a function, but it can use this macro, and the checker knows the constant's mode.
 ///
-/// A mode that has a bit outside 0o666 gets no proof, as in [`Attribute::new`].
+/// If the mode has a bit outside 0o666, the proof fails, as it does for [`Attribute::new`].
 #[macro_export]
 macro_rules! attribute {
     ($name:expr, $mode:expr) => {
@@ -15,7 +15,7 @@ macro_rules! attribute {
     ($name:expr, $mode:expr, $tag:expr) => {
         $crate::Attribute {
             name: $name,
-            mode: $mode / (($mode & 0o666 == $mode) as u16), // no other bit, or a division by 0
+            mode: $mode / (($mode & 0o666 == $mode) as u16), // a division by 0 if it has any other bit
             tag: $tag,
         }
     };
@@ -26,17 +26,17 @@ macro_rules! attribute {
 pub struct Attribute<'a> {
     /// The name of its file.
     pub name: &'a [u8],
-    /// The mode of its file: its read bits, 0o444, and its write bits, 0o222. With 0 there is no file (what
-    /// `is_visible` says by 0).
+    /// The mode of its file, made of the read bits 0o444 and the write bits 0o222. With mode 0 there is no
+    /// file, as in the kernel if `is_visible` returns 0.
     pub mode: u16,
-    /// The tag of its file, by which a callback tells it from others.
+    /// The tag of its file, by which callbacks know the file.
     pub tag: u64,
 }
 
 impl<'a> Attribute<'a> {
-    /// The attribute of this name, mode and tag (`__ATTR`).
+    /// Makes the attribute of this name, mode and tag (`__ATTR`).
     ///
-    /// Condition: the mode has no bit but those of 0o666 (`VERIFY_OCTAL_PERMISSIONS`).
+    /// Condition: the mode has no bit outside 0o666 (`VERIFY_OCTAL_PERMISSIONS`).
     pub const fn new(name: &'a [u8], mode: u16, tag: u64) -> Attribute<'a>
         requires mode { IsMode mode }
         ensures name { result.name.now ≡ name.now }
@@ -46,7 +46,7 @@ impl<'a> Attribute<'a> {
         Attribute { name, mode, tag }
     }
 
-    /// An attribute that all may read, and nobody may write (`__ATTR_RO`).
+    /// Makes an attribute that everybody may read and nobody may write (`__ATTR_RO`).
     pub const fn read_only(name: &'a [u8], tag: u64) -> Attribute<'a>
         ensures name { result.name.now ≡ name.now }
         ensures mode { result.mode ≡ 292 }
@@ -55,7 +55,7 @@ impl<'a> Attribute<'a> {
         Attribute::new(name, 0o444, tag)
     }
 
-    /// An attribute that all may read, and its owner may write (`__ATTR_RW`).
+    /// Makes an attribute that everybody may read and its owner may write (`__ATTR_RW`).
     pub const fn read_write(name: &'a [u8], tag: u64) -> Attribute<'a>
         ensures name { result.name.now ≡ name.now }
         ensures mode { result.mode ≡ 420 }
@@ -64,7 +64,7 @@ impl<'a> Attribute<'a> {
         Attribute::new(name, 0o644, tag)
     }
 
-    /// An attribute that its owner may write, and nobody may read (`__ATTR_WO`).
+    /// Makes an attribute that its owner may write and nobody may read (`__ATTR_WO`).
     pub const fn write_only(name: &'a [u8], tag: u64) -> Attribute<'a>
         ensures name { result.name.now ≡ name.now }
         ensures mode { result.mode ≡ 128 }
@@ -77,15 +77,15 @@ impl<'a> Attribute<'a> {
 /// A group of attributes (`struct attribute_group`).
 #[derive(Clone, Copy)]
 pub struct Group<'a> {
-    /// The name of the group's directory, which is made if an attribute has a file. None: its files stand
-    /// right in the directory that it is made in.
+    /// The name of the group's own directory, which is made only if an attribute has a file. If it is None,
+    /// the files are made directly in the directory in which the group is made.
     pub name: Option<&'a [u8]>,
     /// Its attributes.
     pub attributes: &'a [Attribute<'a>],
 }
 
 impl<'a> Group<'a> {
-    /// The group of this name, if it has one, with these attributes.
+    /// Makes the group of this name, if it has one, with these attributes.
     pub const fn new(name: Option<&'a [u8]>, attributes: &'a [Attribute<'a>]) -> Group<'a>
         ensures name { result.name ≡ name.entry }
         ensures attributes { result.attributes.now ≡ attributes.now }

@@ -21,21 +21,21 @@ pub(crate) fn file_of(attribute: &Attribute) -> Node
     }
 }
 
-// Whether there is a file of the attribute.
+// Whether the attribute has a file.
 fn is_shown(attribute: &Attribute) -> bool
     ensures known { result ≡ is_shown attribute.now }
 {
     attribute.mode != 0
 }
 
-// Whether there is a file of one of the attributes.
+// Whether one of the attributes has a file.
 fn has_files(attributes: &[Attribute]) -> bool
     ensures known { result ≡ has_files attributes.now }
 {
     attributes.iter().any(|attribute| is_shown(attribute))
 }
 
-/// The name of the directory that the group makes for its files: None if the group has no name, or no file.
+/// The name of the directory that the group makes for its files. None if the group has no name, or no file.
 pub(crate) fn own_name<'a>(group: &Group<'a>) -> Option<&'a [u8]>
     ensures known { result ≡ own_name group.now }
 {
@@ -68,7 +68,7 @@ fn has_name(attributes: &[Attribute], name: &[u8]) -> bool
     any_named(attributes, name)
 }
 
-// What is wrong with a file in this directory, or in a new one.
+// What is wrong with a file in this directory or, if that is None, in a new one.
 fn file_fault(state: &State, dir: Option<Key>, attribute: &Attribute) -> Option<Refusal>
     ensures first { result ≡ file_fault state.now.tree state.now.root dir attribute.now }
 {
@@ -78,7 +78,7 @@ fn file_fault(state: &State, dir: Option<Key>, attribute: &Attribute) -> Option<
     }
 }
 
-// Why the first of these files is refused, if there is one.
+// Why the file of this attribute is refused, if it has one. The attributes in `later` come after it.
 fn first_cause(
     state: &State,
     dir: Option<Key>,
@@ -100,7 +100,7 @@ fn first_cause(
     None
 }
 
-// Why these files are refused, in this directory or in a new one.
+// Why these files are refused in this directory or, if that is None, in a new one.
 fn files_cause(state: &State, dir: Option<Key>, attributes: &[Attribute]) -> Option<Refusal>
     ensures first { result ≡
         files_cause (file_fault state.now.tree state.now.root dir) (shown attributes.now) }
@@ -114,7 +114,7 @@ fn files_cause(state: &State, dir: Option<Key>, attributes: &[Attribute]) -> Opt
     None
 }
 
-// What is wrong with a directory that is to have files: it is not linked, or is none.
+// What is wrong with the node in which files are to be made: it is not linked, or it is not a directory.
 fn dir_fault(state: &State, dir: Key) -> Option<Refusal>
     ensures first { result ≡ list_cause state.now.tree dir }
 {
@@ -124,7 +124,7 @@ fn dir_fault(state: &State, dir: Key) -> Option<Refusal>
     }
 }
 
-/// Why the group is refused, lack of slots and memory aside.
+/// Why the group is refused, apart from a lack of slots or memory.
 pub(crate) fn group_cause(state: &State, dir: Key, group: &Group) -> Option<Refusal>
     ensures first { result ≡ group_cause state.now.tree state.now.root dir group.now }
 {
@@ -150,14 +150,14 @@ fn makes(group: &Group, name: &[u8]) -> bool
     }
 }
 
-// Whether it makes an entry of the name of this attribute's file.
+// Whether the group makes an entry with the name of this attribute's file.
 fn makes_file(group: &Group, attribute: &Attribute) -> bool
     ensures known { result ≡ (is_shown attribute.now && makes attribute.now.name.now group.now) }
 {
     attribute.mode != 0 && makes(group, attribute.name)
 }
 
-// Whether it makes an entry of the name of one of these attributes' files.
+// Whether the group makes an entry with the name of a file of one of these attributes.
 fn makes_any(group: &Group, attributes: &[Attribute]) -> bool
     ensures known { result ≡
         list_any (λ attribute. is_shown attribute && makes attribute.name.now group.now) attributes.now }
@@ -167,7 +167,7 @@ fn makes_any(group: &Group, attributes: &[Attribute]) -> bool
         .any(|attribute| makes_file(group, attribute))
 }
 
-// Whether both make an entry of one name.
+// Whether both groups make an entry of the same name.
 fn shares(group: &Group, other: &Group) -> bool
     ensures known { result ≡ shares group.now other.now }
 {
@@ -177,14 +177,14 @@ fn shares(group: &Group, other: &Group) -> bool
     }
 }
 
-// Whether it and one of the others make an entry of one name.
+// Whether this group and one of the others make an entry of the same name.
 fn clashes(others: &[Group], group: &Group) -> bool
     ensures known { result ≡ clashes others.now group.now }
 {
     others.iter().any(|other| shares(group, other))
 }
 
-/// Why these groups are refused, lack of slots and memory aside.
+/// Why these groups are refused, apart from a lack of slots or memory.
 pub(crate) fn groups_cause(state: &State, dir: Key, groups: &[Group]) -> Option<Refusal>
     ensures first { result ≡ groups_cause state.now.tree state.now.root dir groups.now }
 {

@@ -1,4 +1,4 @@
-//! A directory is made with groups in it, all or nothing.
+//! Making a directory with groups in it, all or none.
 ghost use Rattle.std.specs.Prelude.{◌≡◌, ◌⊎◌, false, IfOk, IfErr, Some};
 ghost use Rattle.kf_core.specs.declared.refusal.Refusal.TheVariants.{NoMemory};
 ghost use Rattle.kf_core.specs.Marks.{fresh_marks};
@@ -12,15 +12,17 @@ use crate::taking_back::give_up;
 use kf_core::{Key, Node, Refusal};
 use kf_shared::{Editor, Naming};
 
-/// Creates a directory with these groups in it, all or nothing, in this turn of the lock: the directory of a
-/// device (`device_add`). The directory is not live yet, so no path leads to its files. Activate it with
-/// [`Editor::activate`], once all else is there, or take it back with [`crate::take_back`]. Returns its key.
+/// Creates a directory with these groups in it, all or none, in this critical section: the directory of a
+/// device (`device_add`). Returns the directory's key. The directory is not live yet, so no path leads to its
+/// files. Activate it with [`Editor::activate`] once everything else is there, or take it back with
+/// [`crate::take_back`].
 ///
-/// Refusals, in order: those of [`Editor::create`] for the directory, then those of [`create_groups`], for
-/// which the directory is taken back under the same lock: the tree is as it was, with more commands stored
-/// and generations used. Last NoMemory, be it for that: what lacks memory to be taken back stays.
+/// Refusals, in order: those of [`Editor::create`] for the directory, then those of [`create_groups`]. After
+/// one of the latter the directory is taken back under the same lock, so the tree is as it was, but with more
+/// commands stored and more generations used. Last NoMemory, which is also returned if memory runs out while
+/// nodes are taken back. Nodes that cannot be taken back for lack of memory stay.
 ///
-/// Whatever the result, each node that was there is as it was.
+/// Whatever the result, each node that was there before is as it was.
 pub fn create_directory<N: Naming>(
     editor: &mut Editor<'_, N>,
     dir: Key,

@@ -1,4 +1,4 @@
-//! Several groups are made, all or nothing.
+//! Making several groups, all or none.
 ghost use Rattle.std.specs.Prelude.{◌≡◌, ◌+◌, true, length, suc, IfErr, None, OnOk};
 ghost use Rattle.kf_core.specs.declared.refusal.Refusal.{Refusal};
 ghost use Rattle.kf_core.specs.declared.key.Key.{Key};
@@ -18,7 +18,8 @@ use crate::taking_back::{take_back, take_back_files};
 use kf_core::{Key, Refusal};
 use kf_shared::{Editor, Naming};
 
-// Takes the directory of a group back, its files first. Whether all nodes were taken out of the tree.
+// Takes back the directory of a group, its files first. Returns whether all of its nodes were taken out of
+// the tree.
 fn take_back_directory<N: Naming>(
     editor: &mut Editor<'_, N>,
     key: Key,
@@ -36,7 +37,8 @@ fn take_back_directory<N: Naming>(
     files & one
 }
 
-// Takes a group back that was made in this turn of the lock. Whether all nodes were taken out of the tree.
+// Takes back a group that was made in this critical section. Returns whether all of its nodes were taken out
+// of the tree.
 fn take_back_group<N: Naming>(editor: &mut Editor<'_, N>, dir: Key, group: &Group, key: Key) -> bool
     ensures took { GroupTakenBack editor.old editor.new dir key (shown group.now.attributes.now)
         (own_name group.now) }
@@ -53,7 +55,7 @@ fn take_back_group<N: Naming>(editor: &mut Editor<'_, N>, dir: Key, group: &Grou
     }
 }
 
-// Takes a group back, and gives the reason for that: NoMemory where anything of it stays.
+// Takes back a group. Returns the given refusal, or NoMemory if a node of the group stays.
 fn give_up_group<N: Naming>(
     editor: &mut Editor<'_, N>,
     dir: Key,
@@ -77,7 +79,7 @@ fn give_up_group<N: Naming>(
     }
 }
 
-// Makes the groups, one after another. On a refusal it takes them back.
+// Makes the groups, one after another. If one is refused, the groups before it are taken back.
 fn make_groups<N: Naming>(
     editor: &mut Editor<'_, N>,
     dir: Key,
@@ -107,15 +109,16 @@ fn make_groups<N: Naming>(
     Ok(())
 }
 
-/// Makes several groups in a directory, all or nothing, in this turn of the lock (`sysfs_create_groups`).
-/// Each may have a name or not.
+/// Makes several groups in a directory, all or none, in this critical section (`sysfs_create_groups`). Each
+/// group may have a name or not.
 ///
-/// Refusals, in order: of one group after another those of [`create_group`], and Exists if a later one
+/// Refusals, in order: for one group after another, those of [`create_group`], and Exists if a later group
 /// makes an entry of the same name. After these nothing has changed. Then NoSpace (a search found no free
-/// slot): the tree is as it was, with more commands stored and generations used. Last NoMemory, be it to take
-/// back what was made: what lacks memory for that stays, and may be live.
+/// slot), which leaves the tree as it was, but with more commands stored and more generations used. Last
+/// NoMemory, which is also returned if memory runs out while nodes are taken back. Nodes that cannot be taken
+/// back for lack of memory stay, and may be live.
 ///
-/// Whatever the result, each node that was there is as it was.
+/// Whatever the result, each node that was there before is as it was.
 pub fn create_groups<N: Naming>(
     editor: &mut Editor<'_, N>,
     dir: Key,

@@ -1,4 +1,4 @@
-//! The removal of a group begins under a lock, and is finished once it is unlocked.
+//! Removing a group: this begins under the lock, and is finished once the tree is unlocked.
 ghost use Rattle.std.specs.Prelude.{◌≡◌, ◌+◌, ◌≤◌, ◌++◌, List, length, vec_capacity, IfOk, IfErr, IfSome, OnErr};
 ghost use Rattle.kf_tree.specs.Paths.{found};
 ghost use Rattle.kf_words.specs.Callers.{Handle};
@@ -13,17 +13,18 @@ use kf_shared::{Editor, Naming, Removing, SharedTree, release_all};
 use std::alloc::Global;
 use std::sync::Wait;
 
-/// What the removal of a group has begun. It must be spent, by [`GroupRemoval::finish`], unlocked.
+/// A removal of a group that has begun. It must be passed to [`GroupRemoval::finish`] once the tree is
+/// unlocked.
 pub struct GroupRemoval<N: Naming> {
-    /// The removal of the group's own directory, if it has a name.
+    /// The removal of the group's own directory, if the group has a name.
     pub directory: Option<Removing<N>>,
-    /// Those of the files of a group without a name, in the order of its attributes.
+    /// The removals of the files of a group without a name, in the order of its attributes.
     pub files: Vec<Removing<N>>,
-    /// Why the next file is not removed, and those after it stay.
+    /// Why the next file is not removed, if that was refused. The files after it stay, too.
     pub refused: Option<Refusal>,
 }
 
-// Begins the removal of what has this name in a directory.
+// Begins the removal of the entry with this name in a directory.
 fn begin_name<N: Naming>(
     editor: &mut Editor<'_, N>,
     dir: Key,
@@ -65,13 +66,14 @@ fn begin_files<N: Naming>(
     }
 }
 
-/// Begins the removal of what has a group's names in a directory, under this lock: of the group's directory
-/// with all in it, or of each of its files that is there. All of that is marked at once, and nothing else.
+/// Begins the removal of the entries of a directory that have a group's names, under this lock: the group's
+/// own directory with all in it, or each of its files that is there. It marks all of these before it returns,
+/// and nothing else.
 ///
-/// Refusals, in order: of a group with a name NoEntry (`dir` is not linked), NotDir, NoEntry (its directory
-/// is not there, as if no attribute had a file), then TooManyHolds or NoMemory, whichever is met first; of
-/// one without a name NoMemory. Then nothing has changed. Why a file is refused is in the result, beside what
-/// was begun before it.
+/// Refusals, in order: for a group with a name, NoEntry (`dir` is not linked), NotDir, NoEntry (the group's
+/// own directory is not there, as is the case if no attribute had a file), then TooManyHolds or NoMemory,
+/// whichever is met first; for a group without a name, NoMemory. After these nothing has changed. If the
+/// removal of a file is refused, the result has that refusal, and the removals that were begun before it.
 pub fn remove_group_in<N: Naming>(
     editor: &mut Editor<'_, N>,
     alloc: Global,
@@ -111,11 +113,11 @@ pub fn remove_group_in<N: Naming>(
 }
 
 impl<N: Naming> GroupRemoval<N> {
-    /// Waits until no callback runs on what was begun, and takes it out of the tree.
+    /// Waits until no callback runs on the nodes that are being removed, and takes them out of the tree.
     ///
-    /// Refusal: why a file's removal was not begun.
+    /// Refusal: the one for which the removal of a file was not begun.
     ///
-    /// Context: sleeps; takes the tree's lock, which its caller must not have.
+    /// Context: sleeps; takes the tree's lock, which the caller must not hold.
     pub fn finish<R: Wait>(self, rt: &R, tree: &SharedTree<N>) -> Result<(), Refusal>
         ensures told { result ≡ ended self.refused }
     {

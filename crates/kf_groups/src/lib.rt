@@ -1,15 +1,16 @@
-//! Groups of attributes: files that come into a directory, or into one made for them, all or none.
+//! Groups of attributes: files that are made all or none, in a directory or in a new subdirectory.
 //!
-//! - `Attribute` is a name, a mode and the tag by which callbacks know the file; `read_only`, `read_write`,
-//!   `write_only` have the modes of most, and `attribute!` is for constants. `Group` is a slice of them, with
-//!   a directory for them or without.
-//! - `create_group` and `create_groups` make them under a lent `Editor`, and let nobody in before all are
-//!   there. A group of which no attribute has a file makes no directory. `create_directory` makes the
-//!   directory of a device with its groups, and `take_back` undoes that under the same lock.
-//! - `remove_group` takes the lock itself; `remove_group_in` begins under a lent one, and its
-//!   `GroupRemoval` must be finished.
+//! - `Attribute` is a name, a mode, and the tag by which callbacks know the file. `read_only`, `read_write`
+//!   and `write_only` make attributes with the most common modes, and `attribute!` makes constants. `Group`
+//!   is a slice of attributes, with or without its own directory.
+//! - `create_group` and `create_groups` make groups under an `Editor` that the caller lends. No file of a
+//!   group is live before all of them exist. If no attribute of a group has a file, no directory is made.
+//!   `create_directory` makes the directory of a device with its groups, and `take_back` undoes that under
+//!   the same lock.
+//! - `remove_group` takes the lock itself. `remove_group_in` begins a removal under an `Editor` that the
+//!   caller lends, and returns a `GroupRemoval`, which must be finished.
 //!
-//! A caller that makes an attribute shows that its mode has no bit beyond 0666. `Editor` and `SharedTree`
+//! Code that makes an attribute must prove that its mode has no bit outside 0o666. `Editor` and `SharedTree`
 //! are those of `kf_shared`.
 #![tactic(auto)]
 

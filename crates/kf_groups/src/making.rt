@@ -1,4 +1,4 @@
-//! A group is made, all or nothing.
+//! Making a group, all or none.
 ghost use Rattle.std.specs.Prelude.{◌≡◌, ◌+◌, suc, false, List, length, IfOk, IfErr, OnOk, None, Some};
 ghost use Rattle.kf_core.specs.declared.key.Key.{Key};
 ghost use Rattle.kf_core.specs.declared.key.Node.TheVariants.{Dir};
@@ -18,7 +18,7 @@ use crate::taking_back::{give_up, take_back, take_back_files};
 use kf_core::{Key, Node, Refusal};
 use kf_shared::{Editor, Naming};
 
-// Makes the files, one after another, not live. On a refusal it takes them back.
+// Makes the files, one after another, not yet live. If one is refused, the files before it are taken back.
 fn fill<N: Naming>(
     editor: &mut Editor<'_, N>,
     dir: Key,
@@ -51,7 +51,8 @@ fn fill<N: Naming>(
     Ok(())
 }
 
-// Makes the files, one after another, not live, and then activates each. On a refusal it takes them back.
+// Makes the files, one after another, not yet live, and then activates each. If one is refused or not
+// activated, all files that were made are taken back.
 fn make_files<N: Naming>(
     editor: &mut Editor<'_, N>,
     dir: Key,
@@ -88,7 +89,8 @@ fn make_files<N: Naming>(
     Ok(())
 }
 
-// Makes a directory with the files in it, not live, and then activates all. On a refusal it takes it back.
+// Makes a directory with the files in it, not yet live, and then activates all of them. If a file is refused
+// or the directory is not activated, the directory is taken back.
 fn make_directory<N: Naming>(
     editor: &mut Editor<'_, N>,
     dir: Key,
@@ -123,19 +125,20 @@ fn make_directory<N: Naming>(
     Ok(key)
 }
 
-/// Makes a group of attributes in a directory, all or nothing, in this turn of the lock
-/// (`sysfs_create_group`): nothing of it is live until all is there. Returns the key of the directory that
-/// has its files. A group of which no attribute has a file makes nothing, and no directory either
-/// (`SYSFS_GROUP_INVISIBLE`): then the key is that of `dir`.
+/// Makes a group of attributes in a directory, all or none, in this critical section (`sysfs_create_group`).
+/// Nothing of the group is live before all of it exists. Returns the key of the directory that has its files.
+/// If no attribute of the group has a file, nothing is made, not even a directory (`SYSFS_GROUP_INVISIBLE`),
+/// and the key is that of `dir`.
 ///
 /// Refusals, in order: those of [`Editor::create`] for the group's own directory, if it makes one, and
-/// else NoEntry (`dir` is not linked) and NotDir; then of one attribute after another what is wrong with its
-/// file, and Exists if a later one has its name. After these nothing has changed. Then NoSpace (a search
-/// found no free slot): what was made is taken back under the same lock, so the tree is as it was, with more
-/// commands stored and generations used. Last NoMemory, be it for that: what lacks memory to be taken back
-/// stays, and may be live.
+/// otherwise NoEntry (`dir` is not linked) and NotDir; then, for one attribute after another, what is wrong
+/// with its file, and Exists if a later file has the same name. After these nothing has changed. Then NoSpace
+/// (a search found no free slot): what was made is taken back under the same lock, so the tree is as it was,
+/// but with more commands stored and more generations used. Last NoMemory, which is also returned if memory
+/// runs out while nodes are taken back. Nodes that cannot be taken back for lack of memory stay, and may be
+/// live.
 ///
-/// Whatever the result, each node that was there is as it was.
+/// Whatever the result, each node that was there before is as it was.
 pub fn create_group<N: Naming>(
     editor: &mut Editor<'_, N>,
     dir: Key,

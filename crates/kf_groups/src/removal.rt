@@ -1,4 +1,4 @@
-//! Groups are removed, and what refuses that.
+//! Removing groups, and why that is refused.
 ghost use Rattle.std.specs.Prelude.{IfErr};
 ghost use Rattle.kf_groups.specs.Removals.{EntryRefusal, NameRefusal, RemoveRefusal};
 
@@ -9,7 +9,7 @@ use kf_shared::{Naming, SharedTree};
 use std::alloc::Global;
 use std::sync::Wait;
 
-// The same result, except for NoEntry: what may be away has then nothing to be removed.
+// The same result, except that NoEntry becomes Ok: if the entry may be missing, there is nothing to remove.
 fn or_away(removed: Result<(), Refusal>) -> Result<(), Refusal>
     requires refused { IfErr removed (λ refusal. NameRefusal refusal) }
     ensures refused { IfErr result (λ refusal. EntryRefusal refusal) }
@@ -21,16 +21,16 @@ fn or_away(removed: Result<(), Refusal>) -> Result<(), Refusal>
     }
 }
 
-/// Removes what has a group's names in a directory (`sysfs_remove_group`): its own directory with all in it,
-/// or each of its files that is there. All is marked in one turn of the lock, by [`remove_group_in`]; then it
-/// waits until no callback runs there.
+/// Removes the entries of a directory that have a group's names (`sysfs_remove_group`): the group's own
+/// directory with all in it, or each of its files that is there. They are all marked in one critical section,
+/// by [`remove_group_in`]. Then it waits until no callback runs there.
 ///
-/// Refusals, in order: NoEntry (`dir` is not linked; only of a group with a name), NotDir, NoEntry (the
-/// group's own directory is not there, as if no attribute had a file), then TooManyHolds or NoMemory,
-/// whichever is met first. A file that is not there is passed over. The first refusal ends it: the files
-/// before it are removed, and the others stay.
+/// Refusals, in order: NoEntry (`dir` is not linked; only for a group with a name), NotDir, NoEntry (the
+/// group's own directory is not there, as is the case if no attribute had a file), then TooManyHolds or
+/// NoMemory, whichever is met first. A file that is not there is skipped. The first refusal ends the removal:
+/// the files before it are removed, and the others stay.
 ///
-/// Context: sleeps; takes the tree's lock, which its caller must not have.
+/// Context: sleeps; takes the tree's lock, which the caller must not hold.
 pub fn remove_group<N: Naming, R: Wait>(
     rt: &R,
     tree: &SharedTree<N>,
@@ -44,13 +44,14 @@ pub fn remove_group<N: Naming, R: Wait>(
     begun?.finish(rt, tree)
 }
 
-/// Removes several groups of a directory, one after another, as [`remove_group`] does each
-/// (`sysfs_remove_groups`). A group whose own directory is not there is passed over.
+/// Removes several groups of a directory, one after another, each as [`remove_group`] does
+/// (`sysfs_remove_groups`). A group whose own directory is not there is skipped.
 ///
 /// Refusals, of one group after another: NotDir, then TooManyHolds or NoMemory, whichever is met first. The
-/// first ends it: that group and those after it stay, except for what of it was removed before.
+/// first refusal ends the removal: that group and those after it stay, except for the files of that group
+/// that were removed before.
 ///
-/// Context: sleeps; takes the tree's lock, which its caller must not have.
+/// Context: sleeps; takes the tree's lock, which the caller must not hold.
 pub fn remove_groups<N: Naming, R: Wait>(
     rt: &R,
     tree: &SharedTree<N>,

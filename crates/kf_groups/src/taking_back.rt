@@ -1,4 +1,4 @@
-//! What was made under the lock, and never left it, is taken back under it.
+//! Taking back, under the lock, what was made in the same critical section.
 ghost use Rattle.std.specs.Prelude.{◌≡◌, ◌+◌, List, length, map, true, false, All, Contains, IfOk, Ok, OnErr};
 ghost use Rattle.kf_core.specs.declared.command.Command.TheVariants.{Doom, Unlink};
 ghost use Rattle.kf_core.specs.declared.key.Key.{Key};
@@ -19,7 +19,7 @@ use kf_core::{Key, Refusal};
 use kf_shared::{Editor, Naming};
 use kf_words::Hold;
 
-// Dooms a node and all below it, and gives holds of them in post-order.
+// Dooms a node and all below it. Returns holds of all of these nodes, in post-order.
 fn doom<N: Naming>(editor: &mut Editor<'_, N>, key: Key) -> Result<Vec<Hold>, Refusal>
     ensures tables { IfOk result (λ holds. AreOf N.table holds.items) }
     ensures ordered { IfOk result (λ holds. IsPostOrder editor.old.state.tree key (keys_of holds.items)) }
@@ -49,7 +49,7 @@ fn did_unlink(unlinked: Result<bool, Refusal>) -> bool
     }
 }
 
-// Takes the node of a hold out of the tree, if it is drained. Whether it did.
+// Takes the node of a hold out of the tree, if it is drained. Returns whether it did.
 fn unlink<N: Naming>(editor: &mut Editor<'_, N>, hold: Hold) -> bool
     requires table { hold.table ≡ N.table }
     ensures unlinked { (keys : List Key) × All (λ key. key ≡ hold.key) keys
@@ -71,7 +71,8 @@ fn unlink<N: Naming>(editor: &mut Editor<'_, N>, hold: Hold) -> bool
     }
 }
 
-// Takes the nodes of these holds out of the tree, each if it is drained. Whether it did so with all.
+// Takes the nodes of these holds out of the tree, each if it is drained. Returns whether it took out all of
+// them.
 fn unlink_each<N: Naming>(editor: &mut Editor<'_, N>, holds: Vec<Hold>) -> bool
     requires tables { AreOf N.table holds.items }
     ensures unlinked { (keys : List Key) × All (Contains (keys_of holds.items)) keys
@@ -90,9 +91,10 @@ fn unlink_each<N: Naming>(editor: &mut Editor<'_, N>, holds: Vec<Hold>) -> bool
     all
 }
 
-/// Takes a node back that was made in this turn of the lock, with all below it. Nobody was ever let in there,
-/// so it does not wait. If there is no memory for that, it stays, and so does each node that somebody has a
-/// reference to. Returns whether one node was taken out of the tree, and that was all of it.
+/// Takes back a node that was made in this critical section, with all below it. It never waits: a node to
+/// which somebody has a reference stays, and so do the nodes above it. (Nobody can have a reference to a node
+/// that was never live.) If there is no memory to take the node back, it stays, with all below it. Returns
+/// whether the given node was taken out of the tree and had no other node below it.
 pub fn take_back<N: Naming>(editor: &mut Editor<'_, N>, key: Key) -> bool
     ensures took { TookBack editor.old editor.new key }
     ensures older { KeepsOlder key editor.old.state.tree editor.new.state.tree }
@@ -108,7 +110,8 @@ pub fn take_back<N: Naming>(editor: &mut Editor<'_, N>, key: Key) -> bool
     alone & all
 }
 
-/// Takes the one node back, and gives the reason for that: NoMemory if it stays.
+/// Takes back a node, with all below it, and returns the given refusal. But it returns NoMemory if the node
+/// stays, or had other nodes below it.
 pub(crate) fn give_up<N: Naming>(editor: &mut Editor<'_, N>, key: Key, refusal: Refusal) -> Refusal
     ensures took { TookBack editor.old editor.new key }
     ensures older { KeepsOlder key editor.old.state.tree editor.new.state.tree }
@@ -122,8 +125,8 @@ pub(crate) fn give_up<N: Naming>(editor: &mut Editor<'_, N>, key: Key, refusal: 
     }
 }
 
-// Takes the node back that stands in the directory under this name, if one does. Whether one was taken
-// out of the tree, and that was all of it.
+// Takes back the node that has this name in the directory, if there is one. Returns whether a node was taken
+// out of the tree and had no other node below it.
 fn take_back_name<N: Naming>(editor: &mut Editor<'_, N>, dir: Key, name: &[u8]) -> bool
     ensures took { NameTookBack editor.old editor.new dir name.now }
     ensures older { (base : Tree) (root : Key) → Lawful base root → has_entry base dir name.now ≡ false
@@ -138,8 +141,9 @@ fn take_back_name<N: Naming>(editor: &mut Editor<'_, N>, dir: Key, name: &[u8]) 
     }
 }
 
-/// Takes the files of these attributes back, which all were made in this turn of the lock, the last first.
-/// What lacks memory for that stays. Whether as many nodes were taken out of the tree as there are files.
+/// Takes back the files of these attributes, all of which were made in this critical section, the last one
+/// first. A file stays if there is no memory to take it back. Returns whether as many nodes were taken out of
+/// the tree as there are files.
 pub(crate) fn take_back_files<N: Naming>(
     editor: &mut Editor<'_, N>,
     dir: Key,

@@ -1,4 +1,4 @@
--- The box of a place owns the same whole, taken apart, and behind a handle.
+-- A box of a place, as it appears whole, taken apart, and behind a handle.
 use mir.Syntax.{impl, tnil, dnil}
 use mathlib.Core.List.{[]}
 use denote.Signature.{Slot, plain}
@@ -11,7 +11,7 @@ use Rattle.kf_handles.proofs.object.Place.TheLaws as place
 use Rattle.kf_handles.specs.contracts.handle.apart.Apart as Apart
 use Rattle.kf_handles.specs.contracts.handle.KtHandle as Handle
 
--- the box of a place in the heap
+-- a box on the heap that owns a place
 abbrev pub place_box : Bx
 place_box = record {
   row = Place.the_row;

@@ -1,4 +1,4 @@
--- What is stored of a removal, step by step.
+-- What a removal stores, step by step.
 use Rattle.std.proofs.Common.{◌≡◌, ◌<◌, zero, suc, Bool, true, false, inl, inr, List, [], ◌∷◌, ◌++◌, length, refl, sym, ◌∙◌, ap, subst, arith}
 use Rattle.std.specs.Prelude.{Contains, All, Option, None, Some, Result, Ok, Err, IfOk, IfErr, MatchBool, is_some, unwrap_or}
 use Rattle.std.specs.Option.{option_map, ok_or}
@@ -26,7 +26,7 @@ use Rattle.kf_handles.specs.Answers.{DoneOr}
 use Rattle.kf_handles.specs.Hiding.{IsUnhidden, IsHiddenStill, UnhidingRefused}
 use Rattle.kf_handles.specs.Removing.{IsEndOf, Ends, Removes}
 
--- ---- ends of nodes
+-- ---- commands that take a node out or show it
 
 -- nothing was done
 pub no_end : (keys : List Key) (old new : Locked) → new.state ≡ old.state → new.claims ≡ old.claims → Ends keys old new
@@ -58,7 +58,7 @@ both_ends keys a b c first other = (
   other.3 ∙ first.3,
 )
 
--- of one of the nodes
+-- a command that takes out or shows this one node does so to a node of any list that has it
 end_of_more : (keys : List Key) (key : Key) → Contains keys key → (command : Command) → IsEndOf (key ∷ []) command
     → IsEndOf keys command
 end_of_more keys key here (Unlink k) (zero, less, is) = subst (λ (x : Key). Contains keys x) is here
@@ -75,7 +75,7 @@ pub ends_of_more : (keys : List Key) (key : Key) (a b : Locked) → Contains key
 ends_of_more keys key a b here (more, all, stores, claims) =
     (more, All-weaker (IsEndOf (key ∷ [])) (IsEndOf keys) (end_of_more keys key here) more all, stores, claims)
 
--- only a key
+-- a key is in the list that has only this key
 pub alone : (key : Key) → Contains (key ∷ []) key
 alone key = (0, omega arith, refl)
 
@@ -155,12 +155,12 @@ shown_or_not old new tokens tokens' key told.Wrong never = absurd never
 
 -- ---- a removal
 
--- what was marked before goes on to end
+-- if the node was marked before, only what ends nodes of its subtree is stored
 pub went_on : (old new : Locked) (key : Key) (keys : List Key) → IsPostOrder old.state.tree key keys
     → Ends keys old new → Removes true old new key
 went_on old new key keys order (more, all, stores, claims) = (keys, more, order, all, stores, claims)
 
--- what is marked now begins to end
+-- if the node is marked now, its doom is stored, and then what ends nodes of its subtree
 pub begun : (old marked new : Locked) (key : Key) (keys : List Key) → IsPostOrder old.state.tree key keys
     → Stores old.state marked.state (Doom key ∷ []) → marked.claims ≡ old.claims
     → Ends keys marked new → Removes false old new key

@@ -1,4 +1,4 @@
--- What a token has done, once it has hidden its file and looked.
+-- What a token has done once it has hidden its file and looked.
 use Rattle.std.proofs.Common.{◌≡◌, ◌⊎◌, List, Option, None, Some, sym, ◌∙◌, ap, subst, refl, inl, inr, slice_set}
 use Rattle.kf_core.specs.declared.caller.Phase.TheVariants as phase_of
 use Rattle.kf_core.specs.declared.command.Command.{Command}
@@ -16,13 +16,13 @@ other : {A B : Type 0} → A ⊎ B → (¬ A) → B
 other (inl a) not_a = absurd (not_a a)
 other (inr b) not_a = b
 
--- one that had yet to see nobody made a step
+-- a token that had not yet seen that nobody is inside made one look
 looked_once : (before after : Handle) → HasLookedAgain before after → before.phase ≡ phase_of.Hiding
     → LookedOnce before after
 looked_once before after looked phase = other looked (λ seen.
     let never : phase_of.Hiding ≡ phase_of.Hidden = sym phase ∙ seen.0 in cc)
 
--- what its look does not change says as little against the file
+-- a look changes neither the key nor the node of the token, so the same command is accepted for it
 accepted_of_same : (old new : TreeLog) (before after : Handle) (command : Command)
     → after.key ≡ before.key → after.node ≡ before.node
     → IsAccepted old new (hold_cause old.tree before) command
@@ -32,7 +32,7 @@ accepted_of_same old new before after command key node accepted =
     let With : Option Refusal → Type 0 = λ cause. IsAccepted old new cause command in
     subst With (sym same) accepted
 
--- the token that lay there looked, and is put back
+-- the token that was at the slot looked, and is put back
 pub looked_again : (Saw : Handle → Type 0) (table : TableId) (old : Locked) (tokens taken put : List (Option Handle))
     (key : Key) (token : Handle) → IsTokenOf tokens key token → taken ≡ slice_set tokens key.slot None
     → IsSeen Saw taken put token → IsHidden Saw table old tokens old put key
@@ -44,7 +44,7 @@ looked_again Saw table old tokens taken put key token at out seen = (
   inr (refl, token, at, seen.2),
 )
 
--- the file was hidden now, and the token of that looked
+-- the file was hidden just now, and its new token looked
 pub began : (Saw : Handle → Type 0) (table : TableId) (old new : Locked) (tokens taken put : List (Option Handle))
     (key : Key) (hiding token : Handle) → token ≡ hiding → hiding.key ≡ key → hiding.phase ≡ phase_of.Hiding
     → HasHidden table old key hiding

@@ -1,4 +1,4 @@
--- Why a node is not marked.
+-- Why a node is not marked, why a step is refused, and why no looker is made.
 use Rattle.std.proofs.Common.{◌≡◌, ◌≢◌, ◌⊎◌, inl, inr, ℕ, Bool, true, false, List, [], ◌∷◌, ◌++◌, length, refl, sym, ◌∙◌, subst, arith}
 use Rattle.std.specs.Prelude.{None, Some, MatchBool, slice_get, ℤ, pos, neg_ℤ}
 use Rattle.std.proofs.lemmas.Bool.{MatchBool-at_true}
@@ -25,7 +25,7 @@ use Rattle.kf_handles.specs.declared.object.Object.TheVariants as behind
 use Rattle.kf_handles.specs.declared.questions.TreeReply.TheVariants as told
 use Rattle.kf_handles.specs.declared.questions.Task.{Task}
 
--- the load that was made last
+-- the load that was made last is at the end of the list
 last_there : {X : Type 0} (xs : List X) (x : X) → slice_get (xs ++ x ∷ []) (length xs) ≡ Some x
 last_there [] x = refl
 last_there (y ∷ xs) x = last_there xs x
@@ -34,11 +34,12 @@ found_full : (m m' : MasterView) (slot : ℕ) → WasFull m slot m' → FoundFul
 found_full m m' slot (found, full, is) = subst (λ (w : MasterView). FoundFull w slot) (sym is)
     (length m.loads, record { slot = slot; word = found }, last_there m.loads (record { slot = slot; word = found }), refl, full)
 
--- the top is in its own subtree
+-- if the top was found with the greatest number of holds, a node of its subtree was
 top_in : (t : Tree) (top : Key) (m : MasterView) → FoundFull m top.slot → FoundFullIn t top m
 top_in t top m full = (top, meets_here (parent_of t) (length t) top top (same_key_self top), full)
 
--- of a linked node a hold was refused, since there is one too many, or for lack of memory
+-- a hold of a linked node was refused because the node was found with the greatest number of holds, or for
+-- lack of memory
 hold_was_full : (old mid : Locked) (key : Key) (why : Refusal) → is_linked old.state.tree key ≡ true
     → HoldRefused old mid key why
     → (why ≡ NoMemory) ⊎ ((why ≡ TooManyHolds) × FoundFull mid.master.view key.slot)
@@ -51,7 +52,7 @@ hold_was_full old mid key why linked refused =
       | inr many ↦ inr (many.0, full many.0)
     ]
 
--- a hold too many of a node was found to be so in its slot
+-- if a hold was refused as one too many, the slot was found with the greatest number of holds
 pub full_of : (old new : Locked) (key : Key) → HoldRefused old new key TooManyHolds → FoundFull new.master.view key.slot
 full_of old new key refused = go (is_linked old.state.tree key) refused
   where
@@ -61,7 +62,8 @@ full_of old new key refused = go (is_linked old.state.tree key) refused
     go true full = found_full old.master.view new.master.view key.slot full
     go false (never, same) = cc
 
--- a hold of the top was refused, and lack of memory was returned last
+-- if a hold of the top was refused, the mark is refused for that reason, or because a node of the subtree was
+-- found with the greatest number of holds
 pub by_hold : (old mid new : Locked) (key : Key) (why told : Refusal) → is_linked old.state.tree key ≡ true
     → doom_cause old.state.tree old.state.root key ≡ None → mid.state ≡ old.state → HoldRefused old mid key why
     → (why ≢ NoMemory → (told ≡ why) × (new ≡ mid))
@@ -81,7 +83,7 @@ by_hold old mid new key why told linked none same refused other memory =
           )
     ])
 
--- a step that the tree refuses is reported so
+-- if the tree refuses a step, the number that is returned says why
 pub step_told : (what : Task) (old new : Object) (why : Refusal) (number : ℤ) → SteppedBehind what old new (told.Refused why)
     → number ≡ neg_ℤ (pos (number_of why)) → StepToldWhy what old new number
 step_told what (behind.Tree old) (behind.Tree new) why number h e = (why, e, h.0)
@@ -98,7 +100,7 @@ step_told what (behind.Looker old) new why number (same, never) e = cc
 step_told what (behind.Gate old) new why number (same, never) e = cc
 step_told what (behind.Pass old) new why number (same, never) e = cc
 
--- a looker was made of a tree, and then there was no memory
+-- a looker of the tree was made, but then there was no memory
 pub looker_wants_memory : (old new : Object) (looker : PathHolderState) → IsLookerIn old looker → IsAsBefore old new
     → LookerRefused old new NoMemory
 looker_wants_memory (behind.Tree old) (behind.Tree new) looker made same = inr refl

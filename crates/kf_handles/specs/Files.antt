@@ -1,4 +1,4 @@
--- What the calls on open files say.
+-- What the calls on open files do.
 use Rattle.std.specs.Prelude.{◌≡◌, ◌<◌, ◌⊎◌, ℕ, ℤ, negsuc, Bool, true, false, not, ◌&&◌, List, Option, None, Some, Ok, Err, IsTrue, IsSome, MatchBool}
 use Rattle.std.specs.Option.{option_map}
 use Rattle.kf_core.specs.declared.caller.Phase.TheVariants.{Running}
@@ -28,23 +28,23 @@ use Rattle.kf_handles.specs.Numbers.{PostRefused}
 use Rattle.kf_handles.specs.Taken.{NumberTaken}
 use Rattle.kf_handles.specs.Steps.{WasEnteredToShow, WasRefused, IsNotRunning, enter_error}
 
--- what is reported of a node says that it is live
+-- whether the stat of a node says that it is live
 abbrev pub tells_live : Stat → Bool
 tells_live stat = stat.activated && not stat.doomed && not stat.hidden
 
--- why a node of which this is reported may not be opened as asked
+-- why a node with this stat may not be opened as wanted
 abbrev pub open_fault : Stat → Node → Want → Option Refusal
 open_fault stat Dir want = Some IsDir
 open_fault stat (Link target) want = Some Invalid
 open_fault stat (File mode tag) want = open_cause mode want (tells_live stat)
 
--- what is reported of the node is against opening it as asked
+-- the stat of the node says that it may not be opened as wanted, for this cause
 abbrev pub OpenFaultTold : Object → Key → Want → Refusal → Type 0
 OpenFaultTold tree key want why =
     (stat : Stat) × (stat_behind tree key ≡ Ok stat) × (open_fault stat stat.node want ≡ Some why)
 
--- why a file is not opened: nothing is reported of the node; what is reported is against it; its hold or its
--- event counter was refused; or there was no memory
+-- why a file is not opened: there is no stat of the node; its stat is against it; its hold or its post was
+-- refused; or there was no memory
 abbrev pub OpenRefused : Object → Object → Key → Want → Refusal → Type 0
 OpenRefused old new key want why = (stat_behind old key ≡ Err why)
     ⊎ OpenFaultTold old key want why
@@ -52,7 +52,7 @@ OpenRefused old new key want why = (stat_behind old key ≡ Err why)
     ⊎ PostRefused old key why
     ⊎ (why ≡ NoMemory)
 
--- it is a file just opened, of a live node that the tree has, and that may be opened as wanted
+-- it is a file that was just opened; its node is in the tree, is live, and may be opened as wanted
 abbrev pub IsOpened : Object → KtKey → Want → Object → Type 0
 IsOpened (behind.Tree tree) key want (behind.File file) = (stat : Stat)
     × (option_map (stat_of tree.value.nodes.state.tree)
@@ -61,16 +61,16 @@ IsOpened (behind.Tree tree) key want (behind.File file) = (stat : Stat)
     × IsNewPost tree.value.posts key.slot file.value.post
 IsOpened tree key want other = ⊥
 
--- the same lies there
+-- the place has the same seat and the same object as before
 abbrev pub IsSamePlace : Place → Place → Type 0
 IsSamePlace old new = (new.seat ≡ old.seat) × (new.object ≡ old.object)
 
--- it is a file that was opened for reading
+-- whether it is a file that was opened for reading
 abbrev pub is_readable : Object → Bool
 is_readable (behind.File file) = file.value.state.want.read
 is_readable other = false
 
--- it is a file that was opened for writing
+-- whether it is a file that was opened for writing
 abbrev pub is_writable : Object → Bool
 is_writable (behind.File file) = file.value.state.want.write
 is_writable other = false
@@ -79,7 +79,7 @@ is_writable other = false
 abbrev pub WasKeptOut : Place → Place → Type 0
 WasKeptOut old new = WasRefused old.seat new.seat × (new.object ≡ old.object)
 
--- such a file lies there, with a hold of its node
+-- the place has a file that was just opened like this, and a hold of its node
 abbrev pub OpenedIn : Object → KtKey → Want → Place → Type 0
 OpenedIn tree key want place = HoldsNode tree key place.seat × IsOpened tree key want place.object
 
@@ -94,8 +94,8 @@ abbrev pub NeedsShow : ℕ → Object → Type 0
 NeedsShow offset (behind.File file) = (offset ≡ 0) ⊎ (file.value.state.text ≡ None)
 NeedsShow offset other = ⊥
 
--- the file was opened for reading, no text serves a read at this offset, and now there is none: its event
--- number was taken for a show
+-- the file was opened for reading, and no text served a read at this offset; now the file has no text, and
+-- its event number was loaded for a show
 abbrev pub Begins : ℕ → Object → Object → Type 0
 Begins offset (behind.File old) (behind.File new) = IsTrue old.value.state.want.read
     × ((offset ≡ 0) ⊎ (old.value.state.text ≡ None))
@@ -103,63 +103,65 @@ Begins offset (behind.File old) (behind.File new) = IsTrue old.value.state.want.
     × (new.value.state ≡ record old.value.state { text = None; number = new.value.state.number })
 Begins offset old new = ⊥
 
--- the node was entered, and then the show begun
+-- the node was entered, and then the show was begun
 abbrev pub BeganRead : ℕ → Place → Place → Type 0
 BeganRead offset old new = WasEnteredToShow old.seat new.seat × Begins offset old.object new.object
 
--- a read was refused: of a file opened for reading no text served it, and the try to enter was refused; of
--- all else nothing was done
+-- a read was refused: if there is a file opened for reading, no text served the read, and the try to enter
+-- was refused; else nothing was done
 abbrev pub ReadRefused : ℕ → Place → Place → Type 0
 ReadRefused offset old new = MatchBool (is_readable old.object)
     (NeedsShow offset old.object × WasKeptOut old new) (IsSamePlace old new)
 
--- a write was refused: of a file opened for writing the try to enter was; of all else nothing was done
+-- a write was refused: if there is a file opened for writing, the try to enter was refused; else nothing was
+-- done
 abbrev pub WriteRefused : Place → Place → Type 0
 WriteRefused old new = MatchBool (is_writable old.object) (WasKeptOut old new) (IsSamePlace old new)
 
--- the number of what is refused of a file: -EACCES if it was not opened for that, else that of the try
+-- the error number of a refused read or write: -EACCES if the file was not opened for it, else that of the
+-- try
 abbrev pub access_error : Bool → Seat → ℤ
 access_error true at = enter_error at
 access_error false at = negsuc 12
 
--- the number of a read that is refused: -EINVAL of what is no file
+-- the error number of a refused read; -EINVAL if there is no file
 abbrev pub read_error : Object → Seat → ℤ
 read_error (behind.File file) at = access_error file.value.state.want.read at
 read_error other at = negsuc 21
 
--- and of a write
+-- the error number of a refused write; -EINVAL if there is no file
 abbrev pub write_error : Object → Seat → ℤ
 write_error (behind.File file) at = access_error file.value.state.want.write at
 write_error other at = negsuc 21
 
--- it is a call in which a show was begun
+-- the seat is a call in which a show was begun
 abbrev pub IsShowing : Seat → Type 0
 IsShowing (seat.Show inside) = Unit {0}
 IsShowing other = ⊥
 
--- it is a call that runs
+-- the seat is a running call
 abbrev pub IsRunning : Seat → Type 0
 IsRunning (seat.Call inside) = inside.call.phase ≡ Running
 IsRunning (seat.Show inside) = inside.call.phase ≡ Running
 IsRunning other = ⊥
 
--- it is no file, or no call of it runs
+-- the object is not a file, or the seat is not a running call
 abbrev pub IsNotAsked : Seat → Object → Type 0
 IsNotAsked at (behind.File file) = IsNotRunning at
 IsNotAsked at other = Unit {0}
 
--- it is no file, or no call that began a show
+-- the object is not a file, or the seat is not a call that began a show
 abbrev pub IsNotShowing : Seat → Object → Type 0
 IsNotShowing (seat.Show inside) (behind.File file) = ⊥
 IsNotShowing at object = Unit {0}
 
--- the text of these bytes is the file's now
+-- the file now has the text of these bytes
 abbrev pub Keeps : List ℕ → Object → Object → Type 0
 Keeps shown (behind.File old) (behind.File new) = (new.value.post ≡ old.value.post)
     × (new.value.state ≡ record old.value.state { text = Some (text_of shown) })
 Keeps shown old new = ⊥
 
--- in a call that began a show this text became the file's
+-- the seat is a call that began a show, and the file now has this text
 abbrev pub HasShown : List ℕ → Place → Place → Type 0
 HasShown shown old new = IsShowing old.seat × (new.seat ≡ old.seat) × Keeps shown old.object new.object
 
@@ -169,7 +171,7 @@ TextFrom (behind.File file) offset most bytes = IsSome file.value.state.text
     × (bytes ≡ slice (text_in_file file.value.state) offset most)
 TextFrom other offset most bytes = ⊥
 
--- why no text is copied, which is that there is none
+-- why no text is copied: the file has none, or the object is not a file
 abbrev pub HasNoText : Object → Refusal → Type 0
 HasNoText (behind.File file) why = (why ≡ Invalid) × (file.value.state.text ≡ None)
 HasNoText other why = why ≡ Invalid
@@ -179,7 +181,7 @@ abbrev pub MayWrite : Object → Type 0
 MayWrite (behind.File file) = IsTrue file.value.state.want.write
 MayWrite other = ⊥
 
--- the slot's event number, as it was taken now, is another than that of the last show, or not
+-- the slot's event number was loaded now, and differs from that of the last show, or not, as this says
 abbrev pub Polled : Bool → Object → Object → Type 0
 Polled changed (behind.File old) (behind.File new) =
     NumberTaken old.value.post new.value.post.found new.value.post
@@ -187,6 +189,6 @@ Polled changed (behind.File old) (behind.File new) =
     × (new.value.state ≡ old.value.state)
 Polled changed old new = ⊥
 
--- in a call that ran the file was polled
+-- the seat is a running call, and the file was polled
 abbrev pub WasPolled : Bool → Place → Place → Type 0
 WasPolled changed old new = IsRunning old.seat × (new.seat ≡ old.seat) × Polled changed old.object new.object

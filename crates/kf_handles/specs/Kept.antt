@@ -5,12 +5,12 @@ use Rattle.kf_pages.specs.Files.{FileState}
 use Rattle.kf_words.specs.Callers.{TableId, Handle}
 use Rattle.kf_shared.specs.Locked.{Locked}
 
--- its post, and what it was opened for with its text and number
+-- an open file: its post, and its state (what it was opened for, its text, and its event number)
 pub record FileKept : Type 0 where
   pub post : PostState
   pub state : FileState
 
--- the tree, its event numbers, and by slot the token of a hidden file
+-- the tree, its event numbers, and for each slot the token of its file, if the file is hidden
 pub record TreeKept : Type 0 where
   pub nodes : Locked
   pub posts : Numbers

@@ -9,6 +9,6 @@ use Rattle.kf_handles.specs.contracts.object.Place as place
 abbrev pub with_place : KtHandle → Place → KtHandle
 with_place h p = record h { place = p }
 
--- h ends with the last value behind r as its place
+-- in the end the place of h is the last value behind r
 abbrev pub LendsPlace : MutBor KtHandle → MutBor Place → Fml
 LendsPlace h r = Lends the_row place.the_row h r (with_place h.now)

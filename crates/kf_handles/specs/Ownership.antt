@@ -1,4 +1,4 @@
--- What a handle owns: what a box of a place owns. And what a new one owns, if it was given to a program.
+-- What a handle owns, which is what a box of a place owns; and what the memory for a new handle owns.
 use base.Fml.{Fml, ftrue}
 use base.Stored.{Coded}
 use denote.RawPtr.{Ptr}
@@ -17,11 +17,11 @@ handle_owns alloc = box_owns (ghosts.dealloc_token alloc) the_row
 abbrev pub place_coded : Coded the_row.Denot
 place_coded = the_row.coded
 
--- nothing, before it was given
+-- the memory for a new handle owns nothing before it gets the handle, and then what the handle owns
 abbrev pub given_owns : Global → Ptr → Option the_row.Denot → Fml
 given_owns alloc at None = ftrue
 given_owns alloc at (Some place) = handle_owns alloc at place
 
--- how the logic stores whether it was
+-- how the logic stores the place of a new handle, or that there is none yet
 abbrev pub given_coded : Coded (Option the_row.Denot)
 given_coded = coded_option place_coded

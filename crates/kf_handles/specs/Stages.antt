@@ -6,12 +6,12 @@ use Rattle.kf_words.specs.Layout.{is_unused}
 use Rattle.kf_handles.specs.declared.token.Stage.{Stage}
 use Rattle.kf_handles.specs.declared.token.Stage.TheVariants as stage
 
--- what contracts see of it
+-- what contracts see of a token
 abbrev pub handle_of : Stage → Handle
 handle_of (stage.Hiding hiding) = hiding
 handle_of (stage.Hidden hidden) = hidden
 
--- it has yet to see that nobody is inside, or the word that it found said so
+-- the token has not yet seen that nobody is inside; or the word that it found says that nobody is
 abbrev pub IsStage : Stage → Type 0
 IsStage (stage.Hiding hiding) = hiding.phase ≡ phase_of.Hiding
 IsStage (stage.Hidden hidden) = (hidden.phase ≡ phase_of.Hidden) × (is_unused hidden.found ≡ true)

@@ -1,4 +1,4 @@
-//! Another hold from a hold, which needs no tree and no lock.
+//! Making another hold from a hold, which needs neither the tree nor its lock.
 ghost use Rattle.std.specs.Prelude.{◌≡◌, ◌≢◌, false, true, pos, negsuc, IfErr, IfOk, OnErr};
 ghost use Rattle.kf_handles.specs.Calls.{IsNothing, is_nothing};
 ghost use Rattle.kf_handles.specs.Another.{GaveAnother, GaveNoOther, WhyNoOther};
@@ -14,7 +14,7 @@ use crate::replies::put;
 use crate::telling::is_nothing;
 use kf_core::Refusal;
 
-/// Another hold of a hold's node, if there is a hold.
+/// Another hold of the node, if the seat is a hold.
 fn another_of(seat: &mut Seat) -> Result<Held, Refusal>
     ensures made { IfOk result (λ other. GaveAnother seat.old seat.new (seat_of.Hold other)) }
     ensures none { OnErr result (GaveNoOther seat.old seat.new) }
@@ -29,7 +29,8 @@ fn another_of(seat: &mut Seat) -> Result<Held, Refusal>
     }
 }
 
-/// Another hold of a hold's node, behind a handle with nothing behind it. It needs no tree and no lock.
+/// Makes another hold of a hold's node, and puts it behind a handle with nothing behind it. It needs neither
+/// the tree nor its lock.
 pub fn dup(hold: &mut KtHandle, out: &mut KtHandle) -> i32
     ensures another { result ≡ pos 0 → GaveAnother hold.old.place.seat hold.new.place.seat out.new.place.seat
         × (out.new.place.object ≡ behind.Empty) }

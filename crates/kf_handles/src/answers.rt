@@ -1,4 +1,4 @@
-//! What a tree does that is asked for a change or for a hold.
+//! What a tree does when it is asked for a change, for a hold, or for the counts of a node.
 ghost use Rattle.kf_handles.specs.Answers.{TreeAnswered, AnsweredBehind};
 
 use crate::holds::Held;
@@ -8,7 +8,7 @@ use crate::removal::claim;
 use kf_core::Refusal;
 use kf_shared::{Locked, Naming};
 
-/// What the tree returns.
+/// Does what a question asks of the tree, and returns the tree's reply.
 pub fn answer<N: Naming>(locked: &mut Locked<N>, question: Question<'_>) -> TreeReply
     ensures { TreeAnswered N.table question.entry locked.old locked.new result }
 {
@@ -46,7 +46,7 @@ pub fn answer<N: Naming>(locked: &mut Locked<N>, question: Question<'_>) -> Tree
     }
 }
 
-/// Asks what lies there.
+/// Asks the question, if the object is a tree.
 pub fn ask_object(object: &mut Object, question: Question<'_>) -> TreeReply
     ensures { AnsweredBehind question.entry object.old object.new result }
 {

@@ -1,4 +1,4 @@
-//! How many hold and use a node of the tree behind a handle.
+//! Counting the holds and the users of a node in the tree behind a handle.
 ghost use Rattle.std.specs.Prelude.{◌≡◌, ◌≢◌, pos};
 ghost use Rattle.kf_handles.specs.Answers.{IsAsBefore, ToldWhy};
 ghost use Rattle.kf_handles.specs.Calls.{CountedIn, key_in};
@@ -9,13 +9,13 @@ use crate::handle::KtHandle;
 use crate::questions::{Question, TreeReply};
 use crate::replies::{KtKey, ask_handle, key_of};
 
-/// How many hold and use a node.
+/// How many holds and how many users a node has.
 #[repr(C)]
 #[derive(Clone, Copy)]
 pub struct KtCounts {
-    /// Its holds and open files, also those that are inside, and the hold that hides it.
+    /// The node's holds and open files, whether they are inside or not, and the hold that hides the node.
     pub holds: u32,
-    /// Those that are inside. A refused try counts for a moment.
+    /// How many of them are inside. A refused try counts for a moment.
     pub users: u32,
 }
 

@@ -23,7 +23,7 @@ impl Model for File {
 }
 
 impl File {
-    /// A file just opened: it has no text, and the event number 0.
+    /// A file that was just opened: it has no text, and the event number 0.
     pub fn new(want: Want, post: Post) -> File
         ensures state { result.state ≡ new_file want }
         ensures post { result.post ≡ post }
@@ -34,7 +34,7 @@ impl File {
         }
     }
 
-    /// Takes the event number for a show, and forgets the text.
+    /// Loads the event number for a show, and drops the text.
     pub fn begin_show(&mut self)
         ensures took { NumberTaken self.old.post self.new.state.number self.new.post }
         ensures state { self.new.state ≡
@@ -44,7 +44,7 @@ impl File {
         self.contents.begin_show(number);
     }
 
-    /// Whether the slot's event number is another than the one that was taken for the last show.
+    /// Whether the slot's event number differs from the one that was loaded for the last show.
     pub fn is_changed(&mut self) -> bool
         ensures took { NumberTaken self.old.post self.new.post.found self.new.post }
         ensures told { result ≡ is_changed self.old.state (Some self.new.post.found) }

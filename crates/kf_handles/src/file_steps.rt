@@ -1,4 +1,4 @@
-//! Open files in halves, round the program's own show and store.
+//! Open files in halves: the steps before and after the program's own show and store.
 ghost use Rattle.std.specs.Prelude.{◌≡◌, ◌≢◌, pos, negsuc, true, false, length, IfErr, IfOk};
 ghost use Rattle.kf_handles.specs.Answers.{IsAsBefore};
 ghost use Rattle.kf_handles.specs.Calls.{IsNothing, is_nothing, key_in};
@@ -23,14 +23,14 @@ use kf_pages::Want;
 use kf_tree::Stat;
 use std::alloc::Global;
 
-/// Whether the mode lets a file be opened as wanted.
+/// Whether a file of this mode may be opened as wanted.
 fn allows(mode: u16, want: Want) -> bool
     ensures { result ≡ allows mode want }
 {
     (!want.read || mode & 0o444 != 0) && (!want.write || mode & 0o222 != 0)
 }
 
-/// Why a node of which this is reported may not be opened as asked.
+/// Why a node with this stat may not be opened as wanted. None if it may.
 fn open_fault(stat: Stat, want: Want) -> Option<Refusal>
     ensures { result ≡ open_fault stat stat.node want }
 {
@@ -49,7 +49,7 @@ fn open_fault(stat: Stat, want: Want) -> Option<Refusal>
     }
 }
 
-/// Opens a file of the tree, behind a handle with nothing behind it.
+/// Opens a file of the tree, and puts it behind a handle with nothing behind it.
 pub fn open(alloc: Global, handle: &mut KtHandle, key: KtKey, want: Want, out: &mut KtHandle) -> i32
     ensures opened { result ≡ pos 0 → OpenedIn handle.old.place.object key want out.new.place }
     ensures taken { is_nothing out.old.place ≡ false → result ≡ negsuc 21 }
@@ -86,7 +86,7 @@ pub fn open(alloc: Global, handle: &mut KtHandle, key: KtKey, want: Want, out: &
     }
 }
 
-/// Begins a read: 0 if the text serves it, and 1 if the node was entered for a show.
+/// Begins a read. Returns 0 if the file's text serves it, and 1 if the node was entered for a show.
 fn begin_read_at(place: &mut Place, offset: u64) -> i32
     ensures served { result ≡ pos 0 → Serves offset place.old.object × IsSamePlace place.old place.new }
     ensures begun { result ≡ pos 1 → BeganRead offset place.old place.new }
@@ -112,7 +112,7 @@ fn begin_read_at(place: &mut Place, offset: u64) -> i32
     }
 }
 
-/// Begins a read.
+/// Begins a read. Returns 0 if the file's text serves the read, and 1 if the node was entered for a show.
 pub fn begin_read(file: &mut KtHandle, offset: u64) -> i32
     ensures served { result ≡ pos 0 →
         Serves offset file.old.place.object × IsSamePlace file.old.place file.new.place }
@@ -124,7 +124,7 @@ pub fn begin_read(file: &mut KtHandle, offset: u64) -> i32
     begin_read_at(file.place_mut(), offset)
 }
 
-/// Keeps the text that a show made, in the call that began it.
+/// Stores the text that a show made, in the call that began the show.
 fn shown_at(place: &mut Place, shown: &[u8]) -> i32
     ensures kept { result ≡ pos 0 → HasShown shown.now place.old place.new }
     ensures same { result ≢ pos 0 → IsSamePlace place.old place.new }
@@ -142,7 +142,7 @@ fn shown_at(place: &mut Place, shown: &[u8]) -> i32
     }
 }
 
-/// Keeps the text that a show made.
+/// Stores the text that a show made, in the call that began the show.
 pub fn shown(file: &mut KtHandle, shown: &[u8]) -> i32
     ensures kept { result ≡ pos 0 → HasShown shown.now file.old.place file.new.place }
     ensures same { result ≢ pos 0 → IsSamePlace file.old.place file.new.place }
@@ -152,7 +152,8 @@ pub fn shown(file: &mut KtHandle, shown: &[u8]) -> i32
     shown_at(file.place_mut(), shown)
 }
 
-/// The text from the offset on, at most this many bytes, of what is a file that has one.
+/// A file's text from the offset on, at most this many bytes. Fails with Invalid unless the object is a file
+/// that has a text.
 fn text_in(object: &Object, offset: u64, most: usize) -> Result<&[u8], Refusal>
     ensures text { IfOk result (λ text. TextFrom object.now offset most text.now) }
     ensures refused { IfErr result (λ why. HasNoText object.now why) }
@@ -169,7 +170,7 @@ fn text_in(object: &Object, offset: u64, most: usize) -> Result<&[u8], Refusal>
     }
 }
 
-/// Copies the text from the offset on, of what is a file that has one.
+/// Copies a file's text from the offset on. Returns -EINVAL unless the object is a file that has a text.
 fn copy_text(object: &Object, offset: u64, out: &mut [u8]) -> i64
     ensures told { TellsText (TextFrom object.now offset (length out.old)) (HasNoText object.now)
         result out.old out.new }
@@ -181,7 +182,7 @@ fn copy_text(object: &Object, offset: u64, out: &mut [u8]) -> i64
     }
 }
 
-/// Copies the text of a file from the offset on, as much as there is room for.
+/// Copies the text of a file from the offset on, as much as fits into `out`, and returns the number of bytes.
 pub fn copy(file: &mut KtHandle, offset: u64, out: &mut [u8]) -> i64
     ensures told { TellsText (TextFrom file.old.place.object offset (length out.old))
         (HasNoText file.old.place.object) result out.old out.new }
@@ -190,7 +191,7 @@ pub fn copy(file: &mut KtHandle, offset: u64, out: &mut [u8]) -> i64
     copy_text(&file.place_mut().object, offset, out)
 }
 
-/// Begins a write: the node was entered for a store.
+/// Begins a write. Returns 0 if the node was entered for a store.
 fn begin_write_at(place: &mut Place) -> i32
     ensures entered { result ≡ pos 0 → MayWrite place.old.object
         × WasEntered place.old.seat place.new.seat × (place.new.object ≡ place.old.object) }
@@ -208,7 +209,7 @@ fn begin_write_at(place: &mut Place) -> i32
     }
 }
 
-/// Begins a write.
+/// Begins a write. Returns 0 if the node was entered for a store.
 pub fn begin_write(file: &mut KtHandle) -> i32
     ensures entered { result ≡ pos 0 → MayWrite file.old.place.object
         × WasEntered file.old.place.seat file.new.place.seat
@@ -219,7 +220,8 @@ pub fn begin_write(file: &mut KtHandle) -> i32
     begin_write_at(file.place_mut())
 }
 
-/// Whether a file has changed since its last show, in a call that runs.
+/// Whether a file has changed since its last show: 1 or 0. Without a file and a running call it returns
+/// -EINVAL.
 fn changed_at(place: &mut Place) -> i32
     ensures same { result ≡ pos 0 → WasPolled false place.old place.new }
     ensures changed { result ≡ pos 1 → WasPolled true place.old place.new }
@@ -236,7 +238,8 @@ fn changed_at(place: &mut Place) -> i32
     }
 }
 
-/// Whether a file has changed since its last show.
+/// Whether a file has changed since its last show: 1 or 0. Without a file and a running call it returns
+/// -EINVAL.
 pub fn changed(file: &mut KtHandle) -> i32
     ensures same { result ≡ pos 0 → WasPolled false file.old.place file.new.place }
     ensures changed { result ≡ pos 1 → WasPolled true file.old.place file.new.place }

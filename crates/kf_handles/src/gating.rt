@@ -1,4 +1,4 @@
-//! A gate of a node, and passes of it, behind handles. Their steps need no lock and wake nobody.
+//! A gate of a node, and passes of the gate, behind handles. Their steps take no lock and wake nobody.
 ghost use Rattle.std.specs.Prelude.{◌≡◌, ◌≢◌, ◌⊎◌, false, true, pos, negsuc, IfErr, IfOk};
 ghost use Rattle.kf_gates.specs.States.{IsLanes};
 ghost use Rattle.kf_handles.specs.Calls.{IsNothing, is_nothing};
@@ -21,8 +21,8 @@ use kf_passes::{Gate, Way, gate_of};
 use kf_words::Wake;
 use std::alloc::Global;
 
-/// What -ENOMEM says after a call that was left again, whatever that owes: the caller of C wakes those who
-/// wait.
+/// Returns -ENOMEM after a call was left again, whether or not that owes a wake: the caller in C wakes the
+/// threads that wait.
 fn no_memory(wake: Wake) -> i32
     ensures { result ≡ negsuc 11 }
 {
@@ -31,7 +31,7 @@ fn no_memory(wake: Wake) -> i32
     }
 }
 
-/// Enters by a hold, and makes a gate that keeps the call.
+/// Enters by a hold, and makes a gate that keeps the call. Returns the gate and its first pass.
 fn gated(seat: Seat, alloc: Global, lanes: u64) -> Result<(Box<Gate>, Way), (Seat, i32)>
     requires lanes { IsLanes lanes }
     ensures made { IfOk result (λ r. WasGated seat lanes r.0.value r.1) }
@@ -53,7 +53,7 @@ fn gated(seat: Seat, alloc: Global, lanes: u64) -> Result<(Box<Gate>, Way), (Sea
     }
 }
 
-/// Whether it is a hold with nothing beside it.
+/// Whether there is a hold with nothing beside it.
 fn is_hold(place: &Place) -> bool
     ensures none { result ≡ false → IsNoHold place.now.seat place.now.object }
     ensures hold { result ≡ true → IsNoHold place.now.seat place.now.object → ⊥ }
@@ -64,8 +64,8 @@ fn is_hold(place: &Place) -> bool
     }
 }
 
-/// Makes a gate of a hold's node, behind the handle of the hold, and its first pass, behind a handle with
-/// nothing behind it.
+/// Makes a gate of a hold's node, and puts it behind the handle of the hold. The gate's first pass is put
+/// behind a handle with nothing behind it.
 pub fn gate(alloc: Global, hold: &mut KtHandle, lanes: u32, pass: &mut KtHandle) -> i32
     ensures made { result ≡ pos 0 → MadeGate hold.old.place.seat lanes hold.new.place.object
         pass.new.place.object × (hold.new.place.seat ≡ seat_of.None) × (pass.new.place.seat ≡ seat_of.None) }
@@ -107,7 +107,7 @@ pub fn gate(alloc: Global, hold: &mut KtHandle, lanes: u32, pass: &mut KtHandle)
     }
 }
 
-/// Shuts what is an open gate, and ends its call if nobody is inside.
+/// Shuts the gate, if the object is a gate that is not closed, and ends its call if nobody is inside.
 fn shut_in(place: &mut Place) -> i32
     ensures shut { (result ≡ pos 0) ⊎ (result ≡ pos 1) → WasShut place.old.object place.new.seat result
         × (place.new.object ≡ behind.Empty) }
@@ -131,7 +131,7 @@ fn shut_in(place: &mut Place) -> i32
     }
 }
 
-/// Shuts a gate, and looks whether nobody is inside. If so its handle has the hold again.
+/// Shuts a gate, and looks whether anybody is inside. If nobody is, the gate's handle has the hold again.
 pub fn shut(gate: &mut KtHandle) -> i32
     ensures shut { (result ≡ pos 0) ⊎ (result ≡ pos 1) →
         WasShut gate.old.place.object gate.new.place.seat result
@@ -145,7 +145,7 @@ pub fn shut(gate: &mut KtHandle) -> i32
     shut_in(gate.place_mut())
 }
 
-/// Another pass of what is a pass.
+/// Another pass of the same gate, if the object is a pass.
 fn another_in(object: &mut Object, lane: u64) -> Result<Way, Refusal>
     ensures made { IfOk result (λ other. MadePass object.old lane (behind.Pass other)) }
     ensures same { StaysPass object.old object.new }
@@ -157,7 +157,7 @@ fn another_in(object: &mut Object, lane: u64) -> Result<Way, Refusal>
     }
 }
 
-/// Another pass of a pass's gate, behind a handle with nothing behind it.
+/// Makes another pass of a pass's gate, and puts it behind a handle with nothing behind it.
 pub fn pass(pass: &mut KtHandle, lane: u32, other: &mut KtHandle) -> i32
     ensures made { result ≡ pos 0 → MadePass pass.old.place.object lane other.new.place.object
         × (other.new.place.seat ≡ seat_of.None) }
@@ -179,7 +179,7 @@ pub fn pass(pass: &mut KtHandle, lane: u32, other: &mut KtHandle) -> i32
     }
 }
 
-/// Goes inside by what is a pass.
+/// Goes inside, if the object is a pass.
 #[inline(always)]
 fn enter_in(object: &mut Object) -> i32
     ensures entered { result ≡ pos 0 → PassedIn object.old object.new }
@@ -204,7 +204,8 @@ pub fn pass_enter(pass: &mut KtHandle) -> i32
     enter_in(&mut pass.place_mut().object)
 }
 
-/// Goes out by what is a pass.
+/// Goes out, if the object is a pass that is inside. Returns 1 if the gate was found shut after that, 0 if
+/// not, and -EINVAL if the object is not such a pass.
 #[inline(always)]
 fn leave_in(object: &mut Object) -> i32
     ensures left { (result ≡ pos 0) ⊎ (result ≡ pos 1) → PassedOut object.old object.new result }
@@ -221,7 +222,8 @@ fn leave_in(object: &mut Object) -> i32
     }
 }
 
-/// Goes out by a pass.
+/// Goes out by a pass. Returns 1 if the gate was found shut after that, 0 if not, and -EINVAL if there is no
+/// pass that is inside.
 #[inline(always)]
 pub fn pass_leave(pass: &mut KtHandle) -> i32
     ensures left { (result ≡ pos 0) ⊎ (result ≡ pos 1) →

@@ -10,7 +10,7 @@ use apart::Apart;
 use std::alloc::Global;
 use std::marker::Model;
 
-/// What a program in C keeps. It owns the box of a place.
+/// A handle, as a program in C keeps it. It owns the box of a place.
 #[repr(C)]
 pub struct KtHandle {
     at: *mut u8,
@@ -22,7 +22,7 @@ impl Model for KtHandle {
     ghost also_owns = { λ h. handle_owns h.alloc h.at h.place };
 }
 
-/// The place in which a program in C gets a new handle: nothing lies there, or what the handle owns.
+/// The memory in which a program in C gets a new handle. It owns nothing, or what that handle owns.
 #[repr(C)]
 pub struct KtGiven {
     at: *mut u8,
@@ -58,14 +58,14 @@ impl KtHandle {
         KtHandle::of_apart(Apart::of(boxed))
     }
 
-    /// The box.
+    /// The box that the handle owns.
     pub(crate) fn into_box(self) -> Box<Place, Global>
         ensures { result.value ≡ self.place }
     {
         self.into_apart().into_box()
     }
 
-    /// The same, for a program that gets it.
+    /// The same handle, as a program gets it.
     pub(crate) fn give(self) -> KtGiven
         ensures { result.place ≡ Some self.place }
     {
@@ -73,7 +73,7 @@ impl KtHandle {
         KtGiven { at, alloc }
     }
 
-    /// Only the pointer. What it owned is the program's from now on.
+    /// Only the pointer. From then on the program owns what the handle owned.
     pub(crate) fn into_pointer(self) -> *mut u8
         ensures { result ≡ self.at }
     {
@@ -86,8 +86,8 @@ impl KtHandle {
     ghost use Rattle.std.specs.Borrow.{sem};
     ghost use Rattle.kf_handles.specs.Lending.{LendsPlace};
 
-    /// What lies behind the handle, lent in place: nothing is written to the handle itself. So threads
-    /// whose handles share a cache line do not slow each other down.
+    /// What is behind the handle, lent in place. Nothing is written to the handle itself, so threads whose
+    /// handles share a cache line do not slow each other down.
     #[inline(always)]
     pub(crate) fn place_mut(&mut self) -> &mut Place
         ensures* writes_back { sem 𝓛 (LendsPlace self.entry result) }
@@ -98,5 +98,5 @@ impl KtHandle {
     }
 }
 
-/// What lies behind a handle may go to another thread.
+/// What is behind a handle may be moved to another thread.
 unsafe impl Send for KtHandle {}

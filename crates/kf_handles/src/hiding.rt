@@ -1,4 +1,4 @@
-//! Files that are hidden and shown again, in steps: what is hidden is looked at until nobody is inside.
+//! Hiding files and showing them again, in steps: the program asks again until nobody is inside.
 ghost use Rattle.std.specs.Prelude.{◌≡◌, IfErr, IfOk, OnErr};
 ghost use Rattle.kf_core.specs.declared.caller.Phase.TheVariants as phase_of;
 ghost use Rattle.kf_core.specs.declared.command.Command.TheVariants.{Hide};
@@ -17,7 +17,7 @@ use kf_shared::{Locked, Naming};
 use kf_tree::Stat;
 use kf_words::Hiding;
 
-/// Why a node of which this is reported is not hidden: only files are, and not once they are marked for
+/// Why a node with this stat cannot be hidden. Only files can be hidden, and only until they are marked for
 /// removal.
 fn hide_fault(stat: &Stat) -> Option<Refusal>
     ensures { result ≡ hide_fault stat.now stat.now.node }
@@ -35,8 +35,8 @@ fn hide_fault(stat: &Stat) -> Option<Refusal>
     }
 }
 
-/// Hides a file by a new hold. What is reported against the file comes first, then the holds that there
-/// may be, then memory.
+/// Hides a file by a new hold. The refusals come in this order: what the file's stat says against it, then
+/// the number of holds, then memory.
 fn begin<N: Naming>(locked: &mut Locked<N>, key: Key) -> Result<Hiding, Refusal>
     ensures token { IfOk result (λ hiding. (hiding.table ≡ N.table) × (hiding.key ≡ key)
         × (hiding.phase ≡ phase_of.Hiding)) }
@@ -61,8 +61,8 @@ fn begin<N: Naming>(locked: &mut Locked<N>, key: Key) -> Result<Hiding, Refusal>
     }
 }
 
-/// Hides a file, if it is not hidden yet, and looks whether nobody is inside: Done if it saw so, and
-/// Not if it saw somebody.
+/// Hides a file, if it is not hidden yet, and looks whether anybody is inside. The reply is Done if nobody
+/// is, and Not if it saw somebody.
 pub fn hide<N: Naming>(
     locked: &mut Locked<N>,
     tokens: &mut Vec<Option<Token>>,
@@ -98,7 +98,7 @@ pub fn hide<N: Naming>(
     }
 }
 
-/// Shows a hidden file again: Done, or Not where somebody is inside still.
+/// Shows a hidden file again. The reply is Done, or Not if the token saw somebody still inside.
 pub fn unhide<N: Naming>(
     locked: &mut Locked<N>,
     tokens: &mut Vec<Option<Token>>,

@@ -1,4 +1,4 @@
-//! Holds and calls that are given back if they are dropped.
+//! Holds that are released, and calls that are ended, when they are dropped.
 ghost use Rattle.std.specs.Prelude.{◌≡◌, ◌≢◌, false, IsTrue};
 ghost use Rattle.kf_core.specs.declared.caller.Phase.TheVariants.{Running};
 ghost use Rattle.kf_handles.specs.Steps.{HasEnded, HasReleased};
@@ -6,20 +6,20 @@ ghost use Rattle.kf_handles.specs.Steps.{HasEnded, HasReleased};
 use kf_core::Phase;
 use kf_words::{Call, Hold, Wake};
 
-/// A hold, released when it is dropped.
+/// A hold that is released when it is dropped.
 pub struct Held {
     pub(crate) hold: Hold,
 }
 
 impl Held {
-    /// Keeps a hold.
+    /// Wraps a hold.
     pub fn new(hold: Hold) -> Held
         ensures { result.hold ≡ hold }
     {
         Held { hold }
     }
 
-    /// The hold, which is then its caller's to give back.
+    /// The hold, which the caller must then release.
     pub fn into_hold(self) -> Hold
         ensures { result ≡ self.hold }
     {
@@ -27,7 +27,7 @@ impl Held {
         hold
     }
 
-    /// Releases the hold. True if its node had no other place for a hold until then.
+    /// Releases the hold. Returns true if the slot was found with the greatest number of holds.
     pub fn end(self) -> bool
         ensures { HasReleased self.hold result }
     {
@@ -41,20 +41,20 @@ impl Drop for Held {
     }
 }
 
-/// A call, ended and released when it is dropped.
+/// A call that is ended when it is dropped, and whose hold is then released.
 pub struct Inside {
     pub(crate) call: Call,
 }
 
 impl Inside {
-    /// Keeps a call.
+    /// Wraps a call.
     pub fn new(call: Call) -> Inside
         ensures { result.call ≡ call }
     {
         Inside { call }
     }
 
-    /// The call, which is then its caller's to end.
+    /// The call, which the caller must then end.
     pub fn into_call(self) -> Call
         ensures { result ≡ self.call }
     {
@@ -62,7 +62,7 @@ impl Inside {
         call
     }
 
-    /// Whether the call has its reference, and has not broken its protection.
+    /// Whether the call still has the reference with which it entered (it is Running).
     pub fn is_running(&self) -> bool
         ensures yes { IsTrue result → self.now.call.phase ≡ Running }
         ensures no { result ≡ false → self.now.call.phase ≢ Running }
@@ -70,8 +70,8 @@ impl Inside {
         self.call.phase() == Phase::Running
     }
 
-    /// Ends the call, whatever its phase is, and gives its hold of the slot back. True if a sleeper
-    /// at the node may wait for one of the two.
+    /// Ends the call, whatever its phase is, and releases its hold. Returns true if a sleeper at the node may
+    /// be waiting for one of the two.
     pub fn end(self) -> bool
         ensures { HasEnded self.call result }
     {

@@ -1,6 +1,6 @@
 //! The attribute tree behind handles, for programs in C: what the calls of the static library `kernfs_tree`
-//! do. Behind each handle lies nothing, a tree, a hold of a node or a call of one, a post, an open file, a
-//! looker, a gate, or a pass.
+//! do. Behind each handle is nothing, a tree, a hold or a call of a node, a post, an open file, a looker, a
+//! gate, or a pass.
 #![tactic(auto)]
 
 mod another;

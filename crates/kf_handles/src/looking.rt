@@ -17,7 +17,7 @@ use crate::tree_looker::TreeLooker;
 use kf_core::{Key, Refusal};
 use std::alloc::Global;
 
-/// A looker of what is a tree.
+/// A looker of the tree, if the object is a tree.
 fn looker_of(object: &mut Object, alloc: Global) -> Result<TreeLooker, Refusal>
     ensures made { IfOk result (λ looker. IsLookerIn object.old looker) }
     ensures refused { IfErr result (λ why. LookerRefused object.old object.new why) }
@@ -54,7 +54,7 @@ pub fn looker(alloc: Global, handle: &mut KtHandle, out: &mut KtHandle) -> i32
     }
 }
 
-/// The key of the live node to which a path leads, if what is a looker finds it.
+/// The key of the live node to which a path leads, if the object is a looker and finds it.
 fn look_in(object: &mut Object, path: &[u8]) -> Option<Key>
     ensures found { IfSome result (λ key. FoundBy object.old path.now key object.new) }
     ensures nothing { IfNone result (FoundNothing object.old object.new) }
@@ -78,7 +78,7 @@ fn look_error(object: &Object) -> i32
     }
 }
 
-/// The key of the live node to which a path leads, without the tree's lock.
+/// Finds the live node to which a path leads, without the tree's lock, and writes its key.
 pub fn look(looker: &mut KtHandle, path: &[u8], out: &mut KtKey) -> i32
     ensures found { result ≡ pos 0 →
         FoundBy looker.old.place.object path.now (key_in out.new) looker.new.place.object }
@@ -97,7 +97,7 @@ pub fn look(looker: &mut KtHandle, path: &[u8], out: &mut KtKey) -> i32
     }
 }
 
-/// A hold of the node of a key, by what is a looker.
+/// A hold of the node of a key, if the object is a looker.
 fn pin_by(object: &mut Object, key: Key) -> Result<Held, Refusal>
     ensures held { IfOk result (λ held. PinnedBy object.old key object.new held.hold) }
     ensures none { OnErr result (PinnedNone object.old object.new) }

@@ -1,4 +1,5 @@
-//! The marks of a removal: a hold of each node below comes first, and memory last.
+//! The marks of a removal, which first takes a hold of each node. A refusal for too many holds comes
+//! before one for lack of memory.
 ghost use Rattle.std.specs.Prelude.{◌≡◌, ◌≢◌, ◌⊎◌, ◌∷◌, [], None, IfErr, IfSome, IfOk, OnOk, OnErr, true, false};
 ghost use Rattle.kf_core.specs.declared.command.Command.TheVariants.{Doom};
 ghost use Rattle.kf_core.specs.declared.refusal.Refusal.TheVariants as refusal_of;
@@ -16,7 +17,7 @@ use kf_core::{Key, Refusal};
 use kf_shared::{Locked, Naming};
 use kf_words::Hold;
 
-/// Gives these holds back.
+/// Releases these holds.
 fn release_each(mut holds: Vec<Hold>) {
     while let Some(hold) = holds.pop() {
         hold.release();
@@ -24,7 +25,7 @@ fn release_each(mut holds: Vec<Hold>) {
     holds.destroy_empty();
 }
 
-/// Whether a node is marked; None if it is not linked.
+/// Whether a node is marked. None if it is not linked.
 pub fn is_marked<N: Naming>(locked: &Locked<N>, key: Key) -> Option<bool>
     ensures linked { IfSome result (λ marked. (is_linked locked.now.state.tree key ≡ true)
         × (marked ≡ doomed_in locked.now.state.tree key)) }
@@ -36,7 +37,7 @@ pub fn is_marked<N: Naming>(locked: &Locked<N>, key: Key) -> Option<bool>
     }
 }
 
-/// Whether a node has as many holds as there may be.
+/// Whether a node already has the greatest number of holds.
 fn is_full<N: Naming>(locked: &mut Locked<N>, key: Key) -> bool
     ensures same { Unchanged locked.old locked.new }
     ensures full { result ≡ true → FoundFull locked.new.master.view key.slot }
@@ -50,8 +51,8 @@ fn is_full<N: Naming>(locked: &mut Locked<N>, key: Key) -> bool
     }
 }
 
-/// What is returned if a hold of the top is refused: lack of memory only if no node below is full. It
-/// looks only at the nodes below.
+/// What is returned if a hold of the top is refused: NoMemory only if no node below the top is found full.
+/// This function looks only at the nodes below the top.
 fn memory_last<N: Naming>(locked: &mut Locked<N>, top: Key, refusal: Refusal) -> Refusal
     ensures same { Unchanged locked.old locked.new }
     ensures other { refusal ≢ refusal_of.NoMemory → (result ≡ refusal) × (locked.new ≡ locked.old) }
@@ -74,8 +75,8 @@ fn memory_last<N: Naming>(locked: &mut Locked<N>, top: Key, refusal: Refusal) ->
     refusal
 }
 
-/// Marks a linked node that is not marked yet, and all below it: a hold of each, in post-order. Refusals, in
-/// order: Invalid (the root), TooManyHolds, NoMemory.
+/// Marks a linked node that is not marked yet, and all nodes below it. Returns a hold of each, in post-order.
+/// Refusals, in order: Invalid (the root), TooManyHolds, NoMemory.
 pub fn mark<N: Naming>(locked: &mut Locked<N>, key: Key) -> Result<Vec<Hold>, Refusal>
     requires { is_linked locked.old.state.tree key ≡ true }
     ensures tables { IfOk result (λ holds. AreOf N.table holds.items) }
@@ -99,7 +100,7 @@ pub fn mark<N: Naming>(locked: &mut Locked<N>, key: Key) -> Result<Vec<Hold>, Re
     }
 }
 
-/// Marks a linked node and all below it, if it is not marked yet.
+/// Marks a linked node and all nodes below it, if the node is not marked yet.
 pub fn mark_once<N: Naming>(locked: &mut Locked<N>, key: Key, marked: bool) -> Result<(), Refusal>
     requires { is_linked locked.old.state.tree key ≡ true }
     ensures stored { OnOk result (Stores locked.old.state locked.new.state (mark_of marked key)) }

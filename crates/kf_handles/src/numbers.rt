@@ -12,7 +12,7 @@ use crate::telling::is_nothing;
 use kf_core::{Key, Refusal};
 use kf_notify::Post;
 
-/// A post of the slot of a node that the tree has.
+/// A post of a node's slot, if the object is a tree that has this node.
 pub fn post_of(object: &mut Object, key: Key) -> Result<Post, Refusal>
     ensures made { IfOk result (λ post. IsPostOf object.old key post) }
     ensures refused { IfErr result (λ why. PostRefused object.old key why) }
@@ -66,7 +66,7 @@ fn notify_at(object: &mut Object) -> i32
     }
 }
 
-/// Raises the number of a post's slot.
+/// Raises the event number of a post's slot.
 pub fn notify(post: &mut KtHandle) -> i32
     ensures notified { result ≡ pos 0 → WasNotified post.old.place.object post.new.place.object }
     ensures full { result ≢ pos 0 → WasFull post.old.place.object post.new.place.object }
@@ -86,7 +86,7 @@ fn number_at(object: &mut Object) -> Option<u64>
     }
 }
 
-/// Takes the number of a post's slot.
+/// Loads the event number of a post's slot, and writes it.
 pub fn number(post: &mut KtHandle, out: &mut u64) -> i32
     ensures took { result ≡ pos 0 → TookNumber post.old.place.object out.new post.new.place.object }
     ensures same { result ≢ pos 0 →

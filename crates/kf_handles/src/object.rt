@@ -1,4 +1,4 @@
-//! What lies behind a handle: a hold or a call, and what is beside it.
+//! What is behind a handle: a seat, which is a hold or a call, and an object beside it.
 ghost use Rattle.std.specs.Prelude.{◌≡◌, true, false};
 ghost use Rattle.kf_handles.specs.Calls.{IsNothing, is_nothing};
 ghost use Rattle.kf_handles.specs.Files.{IsRunning};
@@ -12,8 +12,8 @@ use crate::tree_looker::TreeLooker;
 use kf_notify::Post;
 use kf_passes::{Gate, Way};
 
-/// A hold of a node, or a call of one. A call that a read began, for a show, is a separate variant: a field
-/// more would make each step slower.
+/// Nothing, a hold of a node, or a call of one. A call that a read began for a show is a separate variant,
+/// since one more field would make each step slower.
 #[derive(Drop)]
 pub enum Seat {
     None,
@@ -23,7 +23,7 @@ pub enum Seat {
 }
 
 impl Seat {
-    /// Whether it is a call that has the reference that it entered with.
+    /// Whether the seat is a call that still has the reference with which it entered.
     pub fn is_running(&self) -> bool
         ensures yes { result ≡ true → IsRunning self.now }
         ensures no { result ≡ false → IsNotRunning self.now }
@@ -35,8 +35,8 @@ impl Seat {
         }
     }
 
-    /// Drops what it is: a hold is released, and a call ended first. True if a sleeper at its node may wait
-    /// for that.
+    /// Drops the seat: a hold is released; a call is ended, and then its hold is released. Returns true if a
+    /// sleeper at the node may be waiting for that.
     pub fn end(self) -> bool
         ensures { EndOwed self result }
     {
@@ -49,7 +49,7 @@ impl Seat {
     }
 }
 
-/// What is beside a seat.
+/// What is behind a handle beside the seat.
 #[derive(Drop)]
 pub enum Object {
     Empty,
@@ -61,8 +61,8 @@ pub enum Object {
     Pass(Way),
 }
 
-/// A seat and an object in their own memory. The words after them keep them off the cache lines of the
-/// next ones.
+/// A seat and an object in their own memory. The words after them keep them off the cache lines of the next
+/// place.
 #[derive(Drop)]
 pub struct Place {
     pub seat: Seat,
@@ -71,7 +71,7 @@ pub struct Place {
 }
 
 impl Place {
-    /// A place with these.
+    /// A place with this seat and this object.
     pub fn of(seat: Seat, object: Object) -> Place
         ensures seat { result.seat ≡ seat }
         ensures object { result.object ≡ object }
@@ -83,7 +83,7 @@ impl Place {
         }
     }
 
-    /// Whether nothing lies there.
+    /// Whether nothing is there.
     pub fn is_empty(&self) -> bool
         ensures nothing { result ≡ true → IsNothing self.now }
         ensures known { result ≡ is_nothing self.now }
@@ -94,8 +94,8 @@ impl Place {
         }
     }
 
-    /// Whether it is not to be dropped: a tree with a hidden file in which somebody may be, an open gate, or
-    /// a pass that is inside.
+    /// Whether the object must not be dropped: it is a tree with a hidden file that somebody may be inside,
+    /// a gate that is not closed, or a pass that is inside.
     pub fn is_in_use(&self) -> bool
         ensures used { result ≡ true → IsInUse self.now.object }
         ensures none { result ≡ false → IsNotInUse self.now.object }

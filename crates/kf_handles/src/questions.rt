@@ -3,59 +3,60 @@ use crate::holds::Held;
 use kf_core::{Key, Node, Refusal};
 use kf_words::Counts;
 
-/// What is asked of a tree.
+/// A question to a tree.
 #[derive(Clone, Copy)]
 pub enum Question<'a> {
-    /// A new node in a directory.
+    /// Create a node in a directory.
     Create {
         parent: Key,
         name: &'a [u8],
         node: Node,
         live: bool,
     },
-    /// A hold of a node.
+    /// Take a hold of a node.
     Hold(Key),
-    /// The subtree made live.
+    /// Activate a subtree.
     Activate(Key),
-    /// A node moved into a directory, under a name.
+    /// Move a node into a directory, under a name.
     Rename {
         key: Key,
         dir: Key,
         name: &'a [u8],
     },
-    /// The stored commands made as few as may be.
+    /// Replace the stored commands by the tree's canonical list of commands.
     Compact,
-    /// The removal of a node by itself claimed.
+    /// Mark a node and all nodes below it, and claim the node's removal.
     Claim(Key),
-    /// How many hold and use a node.
+    /// Count the holds and the users of a node.
     Counts(Key),
 }
 
-/// What may have to be asked of a tree again, since somebody is inside.
+/// A task for a tree, which may have to be asked for again because somebody is inside.
 #[derive(Clone, Copy)]
 pub enum Task {
-    /// A node and all below it marked, and each of them taken out that nobody uses.
+    /// Mark a node and all nodes below it, and take out of the tree those that nobody uses and that no longer
+    /// have a node below them.
     Remove(Key),
-    /// A file hidden, with nobody inside.
+    /// Hide a file, and see that nobody is inside.
     Hide(Key),
-    /// A hidden file shown again.
+    /// Show a hidden file again.
     Unhide(Key),
 }
 
 /// What a tree returns.
 #[derive(Drop)]
 pub enum TreeReply {
-    /// This key.
+    /// The key that was asked for.
     Named(Key),
     Held(Held),
     Counted(Counts),
     /// It is done.
     Done,
-    /// The node was out of the tree before.
+    /// The node had already left the tree.
     Gone,
-    /// It was done before, or somebody is inside.
+    /// It had been done before, or somebody is inside.
     Not,
     Refused(Refusal),
-    /// It is no tree.
+    /// The question went to something that is not a tree.
     Wrong,
 }

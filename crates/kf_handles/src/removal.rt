@@ -1,4 +1,5 @@
-//! Removal in steps: each marks what is not marked yet, and takes out what nobody uses.
+//! Removal in steps. Each step marks the nodes if they are not marked yet, and takes out those that nobody
+//! uses and that no longer have a node below them.
 ghost use Rattle.std.specs.Prelude.{◌≡◌, ◌∷◌, [], true, false, IfErr, MatchBool, OnOk, OnErr};
 ghost use Rattle.kf_core.specs.declared.refusal.Refusal.TheVariants as refusal_of;
 ghost use Rattle.kf_core.specs.Tree.{is_linked};
@@ -17,8 +18,8 @@ use kf_core::{Key, Refusal};
 use kf_shared::{Locked, Naming};
 use kf_words::Hold;
 
-/// Shows a marked node again, if it is hidden, so that no token is left of a node that is out. False if
-/// somebody is inside.
+/// Shows a marked node again, if it is hidden, so that no token is left when the node leaves the tree.
+/// Returns false if somebody is inside.
 fn unhide_first<N: Naming>(
     locked: &mut Locked<N>,
     tokens: &mut Vec<Option<Token>>,
@@ -35,7 +36,7 @@ fn unhide_first<N: Naming>(
     }
 }
 
-/// Takes the node of a hold out of the tree, if nobody uses it.
+/// Takes the node of a hold out of the tree, if nobody uses it and no node is below it. Releases the hold.
 fn unlink<N: Naming>(locked: &mut Locked<N>, hold: Hold)
     requires { hold.table ≡ N.table }
     ensures { Ends (hold.key ∷ []) locked.old locked.new }
@@ -49,7 +50,8 @@ fn unlink<N: Naming>(locked: &mut Locked<N>, hold: Hold)
     }
 }
 
-/// Shows the marked node of a hold, if it is hidden, and takes it out of the tree, if nobody uses it.
+/// Shows the marked node of a hold, if it is hidden, and takes it out of the tree, if nobody uses it and no
+/// node is below it. Releases the hold.
 fn take_out<N: Naming>(locked: &mut Locked<N>, tokens: &mut Vec<Option<Token>>, hold: Hold)
     requires table { hold.table ≡ N.table }
     requires tokens { AreTokensOf N.table tokens.old.items }
@@ -63,7 +65,8 @@ fn take_out<N: Naming>(locked: &mut Locked<N>, tokens: &mut Vec<Option<Token>>, 
     unlink(locked, hold);
 }
 
-/// Takes each marked node of these holds out of the tree that nobody uses, in their order.
+/// Takes the marked nodes of these holds out of the tree, in their order, except those that somebody uses or
+/// that still have a node below them. Releases the holds.
 fn take_each<N: Naming>(locked: &mut Locked<N>, tokens: &mut Vec<Option<Token>>, holds: Vec<Hold>)
     requires tables { AreOf N.table holds.items }
     requires tokens { AreTokensOf N.table tokens.old.items }
@@ -77,8 +80,8 @@ fn take_each<N: Naming>(locked: &mut Locked<N>, tokens: &mut Vec<Option<Token>>,
     rest.destroy_empty();
 }
 
-/// Takes a marked node out of the tree, if nobody uses it and it has room for a hold more. It is shown first,
-/// if it is hidden: what hides it has one of its holds.
+/// Takes a marked node out of the tree, if nobody uses it, no node is below it, and there is room for one
+/// more hold. If the node is hidden, it is shown first, because the token that hides it has one of its holds.
 fn take_marked<N: Naming>(locked: &mut Locked<N>, tokens: &mut Vec<Option<Token>>, key: Key)
     requires { AreTokensOf N.table tokens.old.items }
     ensures ends { Ends (key ∷ []) locked.old locked.new }
@@ -92,7 +95,7 @@ fn take_marked<N: Naming>(locked: &mut Locked<N>, tokens: &mut Vec<Option<Token>
     }
 }
 
-/// The same with each of these nodes, in their order.
+/// Does what `take_marked` does with each of these nodes, in their order.
 fn take_all<N: Naming>(locked: &mut Locked<N>, tokens: &mut Vec<Option<Token>>, keys: &[Key])
     requires { AreTokensOf N.table tokens.old.items }
     ensures ends { Ends keys.now locked.old locked.new }
@@ -103,8 +106,8 @@ fn take_all<N: Naming>(locked: &mut Locked<N>, tokens: &mut Vec<Option<Token>>, 
     }
 }
 
-/// Marks a node and all below it, if it is not marked yet, and claims its removal: Done the first time,
-/// and else Not.
+/// Marks a node and all nodes below it, if the node is not marked yet, and claims its removal. The reply is
+/// Done the first time, and Not from then on.
 pub fn claim<N: Naming>(locked: &mut Locked<N>, key: Key) -> TreeReply
     ensures { DoneOr ((is_claimed locked.old.claims key ≡ false) × ClaimedTo locked.old locked.new key
         × IsMarked locked.old locked.new key)
@@ -125,7 +128,8 @@ pub fn claim<N: Naming>(locked: &mut Locked<N>, key: Key) -> TreeReply
     }
 }
 
-/// Marks a node and all below it, if it is not marked yet, and takes each of them out that nobody uses.
+/// Marks a node and all nodes below it, if the node is not marked yet, and takes out those of them that
+/// nobody uses and that no longer have a node below them.
 fn take_up<N: Naming>(
     locked: &mut Locked<N>,
     tokens: &mut Vec<Option<Token>>,
@@ -157,10 +161,11 @@ fn is_linked<N: Naming>(locked: &Locked<N>, key: Key) -> bool
     locked.state().stat(key).is_ok()
 }
 
-/// Marks a node and all below it, if it is not marked yet, and takes out each of them that nobody uses.
-/// Done if this took it out of the tree, Gone if it was out before, and Not if it is still there. A
-/// refusal comes before anything is marked or taken out: NoEntry if the key was never given in the tree,
-/// Invalid of the root, TooManyHolds, NoMemory.
+/// Marks a node and all nodes below it, if the node is not marked yet, and takes out those of them that
+/// nobody uses and that no longer have a node below them. The reply is Done if this took the node out of the
+/// tree, Gone if the node was out before, and Not if the node is still there. A refusal comes before anything
+/// is marked or taken out: NoEntry if no node of the tree ever had the key, Invalid if the node is the root,
+/// TooManyHolds, NoMemory.
 pub fn remove<N: Naming>(
     locked: &mut Locked<N>,
     tokens: &mut Vec<Option<Token>>,

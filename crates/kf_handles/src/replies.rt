@@ -1,4 +1,4 @@
-//! What the calls of a program do to what lies behind its handles, and the numbers that they return.
+//! What a program's calls do to what is behind its handles, and the numbers that they return.
 ghost use Rattle.std.specs.Prelude.{◌≡◌, ◌≢◌, ◌⊎◌, ◌<◌, ◌≤◌, true, false, pos, negsuc, IfSome, IsSome};
 ghost use Rattle.kf_handles.specs.Tasks.{IsInUse, IsNotInUse};
 ghost use Rattle.kf_handles.specs.Answers.{TreeAnswered, AnsweredBehind, OfTrees, IsAsBefore, ToldWhy, is_change, is_naming};
@@ -23,7 +23,7 @@ use kf_tree::Stat;
 use std::alloc::Global;
 use std::mem::ManuallyDrop;
 
-/// A key of a node.
+/// The key of a node, as C sees it.
 #[repr(C)]
 #[derive(Clone, Copy)]
 pub struct KtKey {
@@ -31,19 +31,19 @@ pub struct KtKey {
     pub generation: u32,
 }
 
-/// What is reported of a node.
+/// The stat of a node, as C sees it.
 #[repr(C)]
 #[derive(Clone, Copy)]
 pub struct KtStat {
-    /// Of a file, what it was created with.
+    /// Of a file, the tag with which it was created. Of others 0.
     pub tag: u64,
-    /// Of a link; of others the key 0, 0, which is no node's.
+    /// Of a link, the key of its target. Of others the key 0, 0, which no node has.
     pub target: KtKey,
-    /// 0 a directory, 1 a file, 2 a link.
+    /// 0 for a directory, 1 for a file, 2 for a link.
     pub kind: u32,
-    /// Two and the number of child directories, or 1.
+    /// Of a directory, 2 plus the number of its child directories. Of others 1.
     pub links: u32,
-    /// The permission bits of a file.
+    /// Of a file, its permission bits. Of others 0.
     pub mode: u16,
     pub activated: bool,
     pub doomed: bool,
@@ -59,7 +59,7 @@ pub struct KtCommands {
     pub compacted: u64,
 }
 
-/// The key as the library has it.
+/// A node's key, as the library sees it.
 pub fn key_of(key: KtKey) -> Key
     ensures { result ≡ record { slot = key.slot; generation = key.generation } }
 {
@@ -79,7 +79,7 @@ pub fn told_key(key: Key) -> KtKey
     }
 }
 
-/// Asks what lies behind a handle.
+/// Asks the question, if a tree is behind the handle.
 pub fn ask_handle(handle: &mut KtHandle, question: Question<'_>) -> TreeReply
     ensures told { AnsweredBehind question.entry handle.old.place.object handle.new.place.object result }
     ensures beside { handle.new.place.seat ≡ handle.old.place.seat }
@@ -87,7 +87,7 @@ pub fn ask_handle(handle: &mut KtHandle, question: Question<'_>) -> TreeReply
     ask_object(&mut handle.place_mut().object, question)
 }
 
-/// Asks for a key, and writes it.
+/// Asks a question whose reply is a key, and writes the key.
 fn named(handle: &mut KtHandle, question: Question<'_>, out: &mut KtKey) -> i32
     requires { is_naming question ≡ true }
     ensures done { result ≡ pos 0 → OfTrees (λ old new. TreeAnswered old.master.table question.entry old new
@@ -139,7 +139,7 @@ pub fn create(
     named(handle, question, out)
 }
 
-/// Links a new file in a directory, and writes its key. Its mode has only permission bits.
+/// Links a new file in a directory, and writes its key. The mode must have only permission bits.
 pub fn create_file(
     handle: &mut KtHandle,
     parent: KtKey,
@@ -183,7 +183,7 @@ pub fn change(handle: &mut KtHandle, question: Question<'_>) -> i32
     }
 }
 
-/// What is reported of a node, as C sees it.
+/// The stat of a node, in the form that C sees.
 pub fn told_of(stat: Stat) -> KtStat
     ensures { result ≡ stat_in_c stat }
 {
@@ -208,7 +208,8 @@ pub fn told_of(stat: Stat) -> KtStat
     }
 }
 
-/// Claims the removal of a node by itself: 0, or 1 if it was claimed before.
+/// Marks a node and all nodes below it, and claims the node's removal. Returns 0, or 1 if the removal was
+/// claimed before.
 pub fn claim(handle: &mut KtHandle, key: KtKey) -> i32
     ensures first { result ≡ pos 0 →
         ClaimedIn handle.old.place.object handle.new.place.object key false }
@@ -229,7 +230,8 @@ pub fn claim(handle: &mut KtHandle, key: KtKey) -> i32
     }
 }
 
-/// Puts these if there is nothing.
+/// Puts a seat and an object into a place with nothing in it. If something is there, it drops both and
+/// returns -EINVAL.
 pub fn put(place: &mut Place, seat: Seat, object: Object) -> i32
     ensures put { result ≡ pos 0 →
         IsNothing place.old × (place.new.seat ≡ seat) × (place.new.object ≡ object) }
@@ -269,7 +271,7 @@ pub fn hold(handle: &mut KtHandle, key: KtKey, out: &mut KtHandle) -> i32
     }
 }
 
-/// A new handle with nothing behind it.
+/// Makes a new handle with nothing behind it.
 pub fn make(alloc: Global, out: &mut KtGiven) -> i32
     ensures given { result ≡ pos 0 → IfSome out.new.place IsNothing × IsSome out.new.place }
     ensures refused { result ≢ pos 0 → (result ≡ negsuc 11) × (out.new ≡ out.old) }
@@ -284,8 +286,8 @@ pub fn make(alloc: Global, out: &mut KtGiven) -> i32
     }
 }
 
-/// A new tree of only the root, with words for the look-ups of this many slots, behind a handle with nothing
-/// behind it.
+/// Makes a new tree with only the root, and with words for the look-ups of this many slots, and puts it
+/// behind a handle with nothing behind it.
 pub fn make_tree(alloc: Global, handle: &mut KtHandle, slots: u32, holds: u32, looks: u32) -> i32
     ensures made { result ≡ pos 0 → IsNewTree slots holds handle.new.place.object }
     ensures taken { is_nothing handle.old.place ≡ false → result ≡ negsuc 21 }
@@ -333,8 +335,9 @@ fn end(place: &mut Place) -> i32
     }
 }
 
-/// Drops what lies behind a handle: 1 if a sleeper may wait for that, and -EBUSY of a tree with a hidden file
-/// in which somebody may be, of an open gate, and of a pass that is inside.
+/// Drops what is behind a handle. Returns 1 if a sleeper may be waiting for that, else 0. Returns -EBUSY and
+/// changes nothing in three cases: a tree with a hidden file that somebody may be inside, a gate that is not
+/// closed, and a pass that is inside.
 pub fn clear(handle: &mut KtHandle) -> i32
     ensures empty { (result ≡ pos 0) ⊎ (result ≡ pos 1) →
         IsNothing handle.new.place × IsNotInUse handle.old.place.object }
@@ -345,8 +348,8 @@ pub fn clear(handle: &mut KtHandle) -> i32
     end(handle.place_mut())
 }
 
-/// Frees a handle and drops what lies behind it, as `clear` does. If that is refused the handle stays
-/// the program's.
+/// Frees a handle and drops what is behind it, as `clear` does. If that is refused, the program still owns
+/// the handle.
 pub fn delete(handle: KtHandle) -> i32
     ensures gone { (result ≡ pos 0) ⊎ (result ≡ pos 1) → IsNotInUse handle.place.object }
     ensures owed { (result ≡ pos 0) ⊎ (result ≡ pos 1) → WakeOwed handle.place.seat result }

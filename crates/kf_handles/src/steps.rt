@@ -1,4 +1,4 @@
-//! The steps of a hold and a call behind a handle. They need no lock and wake nobody.
+//! The steps of a hold and a call behind a handle. They take no lock and wake nobody.
 ghost use Rattle.std.specs.Prelude.{◌≡◌, ◌≢◌, ◌⊎◌, pos, negsuc, if◌then◌else◌};
 ghost use Rattle.kf_core.specs.declared.caller.Phase.TheVariants.{Running, Broken};
 ghost use Rattle.kf_words.specs.Callers.{is_wanted};
@@ -10,7 +10,7 @@ use crate::object::Seat;
 use kf_core::Phase;
 use kf_words::Wake;
 
-/// 1 if a sleeper may wait for the step that was made.
+/// 1 if a sleeper may be waiting for the step that was made, else 0.
 pub fn wake_status(wake: Wake) -> i32
     ensures value { result ≡ pos (if is_wanted wake then 1 else 0) }
     ensures range { (result ≡ pos 0) ⊎ (result ≡ pos 1) }
@@ -21,7 +21,8 @@ pub fn wake_status(wake: Wake) -> i32
     }
 }
 
-/// What -ENODEV says after a refused try, whatever its undoing owes: the caller of C wakes those who wait.
+/// Returns -ENODEV after a refused try, whether or not undoing the try owes a wake: the caller in C wakes the
+/// threads that wait.
 pub fn no_device(wake: Wake) -> i32
     ensures { result ≡ negsuc 18 }
 {
@@ -30,7 +31,7 @@ pub fn no_device(wake: Wake) -> i32
     }
 }
 
-/// Tries for a reference.
+/// Tries for an active reference.
 #[inline(always)]
 pub fn enter(seat: Seat, _nothing: ()) -> (Seat, i32)
     ensures entered { result.1 ≡ pos 0 → WasEntered seat result.0 }
@@ -47,7 +48,7 @@ pub fn enter(seat: Seat, _nothing: ()) -> (Seat, i32)
     }
 }
 
-/// Tries for a reference for a show.
+/// Tries for an active reference for a show.
 #[inline(always)]
 pub fn enter_to_show(seat: Seat, _nothing: ()) -> (Seat, i32)
     ensures entered { result.1 ≡ pos 0 → WasEnteredToShow seat result.0 }
@@ -64,7 +65,7 @@ pub fn enter_to_show(seat: Seat, _nothing: ()) -> (Seat, i32)
     }
 }
 
-/// Gives the reference back, if the call has one.
+/// Ends the call and releases its reference, if the seat is a call that has one.
 #[inline(always)]
 pub fn leave(seat: Seat, _nothing: ()) -> (Seat, i32)
     ensures left { (result.1 ≡ pos 0) ⊎ (result.1 ≡ pos 1) → WasLeft seat result.0 }
@@ -93,7 +94,7 @@ pub fn leave(seat: Seat, _nothing: ()) -> (Seat, i32)
     }
 }
 
-/// Gives the reference of a call up, if that has the one that it entered with.
+/// Gives up the reference of a call, if the call still has the one with which it entered.
 #[inline(always)]
 fn break_inside(inside: &mut Inside) -> i32
     ensures broken { (result ≡ pos 0) ⊎ (result ≡ pos 1) → HasBroken inside.old.call inside.new.call }
@@ -108,7 +109,8 @@ fn break_inside(inside: &mut Inside) -> i32
     wake_status(inside.call.break_quiet().must_wake())
 }
 
-/// Gives the reference up inside the callback, if the call has the one that it entered with.
+/// Gives up the reference inside the callback, if the seat is a call that still has the one with which it
+/// entered.
 #[inline(always)]
 pub fn break_off(seat: &mut Seat) -> i32
     ensures broken { (result ≡ pos 0) ⊎ (result ≡ pos 1) → WasBroken seat.old seat.new }

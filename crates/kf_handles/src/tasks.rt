@@ -1,5 +1,5 @@
-//! What may have to be asked of a tree again, asked of what lies behind a handle, and the numbers that are
-//! returned.
+//! Tasks for the tree behind a handle, which a program may have to ask for again, and the numbers that these
+//! calls return.
 ghost use Rattle.std.specs.Prelude.{◌≡◌, ◌≢◌, true, false, pos, negsuc};
 ghost use Rattle.kf_handles.specs.Calls.{key_in};
 ghost use Rattle.kf_handles.specs.declared.questions.Task.TheVariants as asks;
@@ -13,7 +13,7 @@ use crate::object::Object;
 use crate::questions::{Task, TreeReply};
 use crate::replies::{KtKey, key_of};
 
-/// Makes a step of what lies there.
+/// Makes one step of a task, if the object is a tree.
 fn step_object(object: &mut Object, task: Task) -> TreeReply
     ensures { SteppedBehind task object.old object.new result }
 {
@@ -23,7 +23,7 @@ fn step_object(object: &mut Object, task: Task) -> TreeReply
     }
 }
 
-/// Makes a step of what lies behind a handle.
+/// Makes one step of a task, if a tree is behind the handle.
 fn step_handle(handle: &mut KtHandle, task: Task) -> TreeReply
     ensures told { SteppedBehind task handle.old.place.object handle.new.place.object result }
     ensures beside { handle.new.place.seat ≡ handle.old.place.seat }
@@ -31,8 +31,8 @@ fn step_handle(handle: &mut KtHandle, task: Task) -> TreeReply
     step_object(&mut handle.place_mut().object, task)
 }
 
-/// Removes a subtree as far as it can be without waiting: 1 if this took the node out, and 0 if it was
-/// out before.
+/// Removes a subtree as far as it can without waiting. Returns 1 if this took the node out, 0 if the node was
+/// out before, and -EAGAIN if the node is still in the tree.
 pub fn remove(handle: &mut KtHandle, key: KtKey) -> i32
     ensures out { result ≡ pos 1 →
         IsRemovingIn handle.old.place.object handle.new.place.object key false }
@@ -55,7 +55,7 @@ pub fn remove(handle: &mut KtHandle, key: KtKey) -> i32
     }
 }
 
-/// Hides a file, and looks whether nobody is inside.
+/// Hides a file, and looks whether anybody is inside. Returns 0 if nobody is, and -EAGAIN if it saw somebody.
 pub fn hide(handle: &mut KtHandle, key: KtKey) -> i32
     ensures hidden { result ≡ pos 0 →
         IsHiddenIn SawNobody handle.old.place.object handle.new.place.object key }
@@ -76,7 +76,7 @@ pub fn hide(handle: &mut KtHandle, key: KtKey) -> i32
     }
 }
 
-/// Shows a hidden file again.
+/// Shows a hidden file again. Returns 0, or -EAGAIN if it saw somebody still inside.
 pub fn unhide(handle: &mut KtHandle, key: KtKey) -> i32
     ensures shown { result ≡ pos 0 →
         IsUnhiddenIn handle.old.place.object handle.new.place.object key }

@@ -1,4 +1,4 @@
-//! What a tree behind a handle says. A look-up leaves the tree in its place, and changes nothing.
+//! Look-ups in the tree behind a handle. They are made in place, and change nothing.
 ghost use Rattle.std.specs.Prelude.{◌≡◌};
 ghost use Rattle.kf_handles.specs.Calls.{is_nothing, key_in};
 ghost use Rattle.kf_handles.specs.LookUps.{CommandsIn, TellsCommands, find_behind, parent_behind, root_behind, stat_behind, walk_behind, TellsKey, TellsStat};
@@ -10,7 +10,7 @@ use crate::replies::{KtCommands, KtKey, KtStat, key_of, told_key, told_of};
 use kf_core::{Key, Refusal};
 use kf_tree::Stat;
 
-/// Whether nothing lies behind a handle.
+/// Whether nothing is behind a handle.
 pub fn is_nothing(handle: &mut KtHandle) -> bool
     ensures same { handle.new.place ≡ handle.old.place }
     ensures known { result ≡ is_nothing handle.old.place }
@@ -18,7 +18,7 @@ pub fn is_nothing(handle: &mut KtHandle) -> bool
     handle.place_mut().is_empty()
 }
 
-/// Writes the key that was found, or returns why there is none.
+/// Writes the key that was found and returns 0, or returns the error number of the refusal.
 fn tell_key(found: Result<Key, Refusal>, out: &mut KtKey) -> i32
     ensures told { TellsKey found result out.old out.new }
 {
@@ -31,7 +31,7 @@ fn tell_key(found: Result<Key, Refusal>, out: &mut KtKey) -> i32
     }
 }
 
-/// The root's key.
+/// The key of the root, if the object is a tree.
 fn root_in(object: &Object) -> Result<Key, Refusal>
     ensures told { result ≡ root_behind object.now }
 {
@@ -41,7 +41,7 @@ fn root_in(object: &Object) -> Result<Key, Refusal>
     }
 }
 
-/// The key of the root.
+/// Writes the key of the root.
 pub fn root(handle: &mut KtHandle, out: &mut KtKey) -> i32
     ensures same { handle.new.place ≡ handle.old.place }
     ensures told { TellsKey (root_behind handle.old.place.object) result out.old out.new }
@@ -49,7 +49,7 @@ pub fn root(handle: &mut KtHandle, out: &mut KtKey) -> i32
     tell_key(root_in(&handle.place_mut().object), out)
 }
 
-/// How many commands a tree stores, and would after a compaction.
+/// How many commands a tree stores, and how many it would store after a compaction, at most.
 fn commands_in(object: &Object) -> Result<KtCommands, Refusal>
     ensures told { CommandsIn object.now result }
 {
@@ -62,7 +62,8 @@ fn commands_in(object: &Object) -> Result<KtCommands, Refusal>
     }
 }
 
-/// How many commands a tree stores, and would after a compaction, in constant time.
+/// Writes how many commands a tree stores, and how many it would store after a compaction, at most. It takes
+/// constant time.
 pub fn commands(handle: &mut KtHandle, out: &mut KtCommands) -> i32
     ensures same { handle.new.place ≡ handle.old.place }
     ensures told { TellsCommands handle.old.place.object result out.old out.new }
@@ -76,7 +77,7 @@ pub fn commands(handle: &mut KtHandle, out: &mut KtCommands) -> i32
     }
 }
 
-/// The child of this name, live or not.
+/// The key of the child of this name, live or not.
 fn find_in(object: &Object, dir: Key, name: &[u8]) -> Result<Key, Refusal>
     ensures told { result ≡ find_behind object.now dir name.now }
 {
@@ -86,7 +87,7 @@ fn find_in(object: &Object, dir: Key, name: &[u8]) -> Result<Key, Refusal>
     }
 }
 
-/// The child of this name, live or not.
+/// Finds the child of this name, live or not, and writes its key.
 pub fn find(handle: &mut KtHandle, dir: KtKey, name: &[u8], out: &mut KtKey) -> i32
     ensures same { handle.new.place ≡ handle.old.place }
     ensures told { TellsKey (find_behind handle.old.place.object
@@ -95,7 +96,7 @@ pub fn find(handle: &mut KtHandle, dir: KtKey, name: &[u8], out: &mut KtKey) -> 
     tell_key(find_in(&handle.place_mut().object, key_of(dir), name), out)
 }
 
-/// The node that a path names, live or not.
+/// The key of the node that a path names, live or not.
 fn walk_in(object: &Object, path: &[u8]) -> Result<Key, Refusal>
     ensures told { result ≡ walk_behind object.now path.now }
 {
@@ -105,7 +106,7 @@ fn walk_in(object: &Object, path: &[u8]) -> Result<Key, Refusal>
     }
 }
 
-/// The node that a path names, live or not.
+/// Finds the node that a path names, live or not, and writes its key.
 pub fn walk(handle: &mut KtHandle, path: &[u8], out: &mut KtKey) -> i32
     ensures same { handle.new.place ≡ handle.old.place }
     ensures told { TellsKey (walk_behind handle.old.place.object path.now) result out.old out.new }
@@ -113,7 +114,7 @@ pub fn walk(handle: &mut KtHandle, path: &[u8], out: &mut KtKey) -> i32
     tell_key(walk_in(&handle.place_mut().object, path), out)
 }
 
-/// The directory of a node.
+/// The key of the directory of a node.
 fn parent_in(object: &Object, key: Key) -> Result<Key, Refusal>
     ensures told { result ≡ parent_behind object.now key }
 {
@@ -127,7 +128,7 @@ fn parent_in(object: &Object, key: Key) -> Result<Key, Refusal>
     }
 }
 
-/// The directory of a node.
+/// Writes the key of the directory of a node.
 pub fn parent(handle: &mut KtHandle, key: KtKey, out: &mut KtKey) -> i32
     ensures same { handle.new.place ≡ handle.old.place }
     ensures told { TellsKey (parent_behind handle.old.place.object
@@ -136,7 +137,7 @@ pub fn parent(handle: &mut KtHandle, key: KtKey, out: &mut KtKey) -> i32
     tell_key(parent_in(&handle.place_mut().object, key_of(key)), out)
 }
 
-/// What is reported of a node.
+/// The stat of a node, if the object is a tree that has the node.
 pub fn stat_in(object: &Object, key: Key) -> Result<Stat, Refusal>
     ensures told { result ≡ stat_behind object.now key }
 {
@@ -146,7 +147,7 @@ pub fn stat_in(object: &Object, key: Key) -> Result<Stat, Refusal>
     }
 }
 
-/// Writes what is reported of a node, or returns why nothing is.
+/// Writes the stat and returns 0, or returns the error number of the refusal.
 fn tell_stat(told: Result<Stat, Refusal>, out: &mut KtStat) -> i32
     ensures told { TellsStat told result out.old out.new }
 {
@@ -159,7 +160,7 @@ fn tell_stat(told: Result<Stat, Refusal>, out: &mut KtStat) -> i32
     }
 }
 
-/// What is reported of a node.
+/// Writes the stat of a node.
 pub fn tell(handle: &mut KtHandle, key: KtKey, out: &mut KtStat) -> i32
     ensures same { handle.new.place ≡ handle.old.place }
     ensures told { TellsStat (stat_behind handle.old.place.object

@@ -1,4 +1,4 @@
-//! What a tree behind a handle says in bytes: names, paths and the texts of links.
+//! Texts that a tree behind a handle reports: names, paths, and the texts of links.
 ghost use Rattle.std.specs.Prelude.{◌≡◌, ◌∷◌, [], IfErr, IfOk};
 ghost use Rattle.std.specs.Option.{option_copied};
 ghost use Rattle.kf_handles.specs.Calls.{key_in};
@@ -14,7 +14,8 @@ use kf_index::Name;
 use kf_tree::State;
 use std::alloc::Global;
 
-/// The number of bytes, copied to the front of `out`; -ERANGE if they do not fit there.
+/// Copies the bytes to the front of `out` and returns their number, or returns -ERANGE if they do not fit
+/// there.
 pub fn copied(bytes: &[u8], out: &mut [u8]) -> i64
     ensures told { WritesText bytes.now result out.old out.new }
 {
@@ -28,7 +29,7 @@ pub fn copied(bytes: &[u8], out: &mut [u8]) -> i64
     count
 }
 
-/// The name of a node, copied.
+/// A copy of the name of a node.
 fn name_in(object: &Object, key: Key, alloc: Global) -> Result<Vec<u8>, Refusal>
     ensures name { IfOk result (λ name. NameIn object.now key name.items) }
     ensures refused { IfErr result (λ why. NameRefused object.now key why) }
@@ -45,7 +46,7 @@ fn name_in(object: &Object, key: Key, alloc: Global) -> Result<Vec<u8>, Refusal>
     }
 }
 
-/// The name of a node.
+/// Writes the name of a node, and returns its length.
 pub fn name(alloc: Global, handle: &mut KtHandle, key: KtKey, out: &mut [u8]) -> i64
     ensures same { handle.new.place ≡ handle.old.place }
     ensures told { TellsText
@@ -70,7 +71,7 @@ fn path_in(object: &Object, key: Key) -> Result<Vec<u8>, Refusal>
     }
 }
 
-/// The path of a node.
+/// Writes the path of a node, and returns its length.
 pub fn path(handle: &mut KtHandle, key: KtKey, out: &mut [u8]) -> i64
     ensures same { handle.new.place ≡ handle.old.place }
     ensures told { TellsText
@@ -95,7 +96,7 @@ fn link_text_in(object: &Object, key: Key) -> Result<Vec<u8>, Refusal>
     }
 }
 
-/// The text of a link.
+/// Writes the text of a link, and returns its length.
 pub fn link_text(handle: &mut KtHandle, key: KtKey, out: &mut [u8]) -> i64
     ensures same { handle.new.place ≡ handle.old.place }
     ensures told { TellsText
@@ -109,14 +110,14 @@ pub fn link_text(handle: &mut KtHandle, key: KtKey, out: &mut [u8]) -> i64
     }
 }
 
-/// The bound of a listing: none if the name is empty.
+/// The bound of a listing, after which it begins: none if the name is empty.
 fn bound(after: &[u8]) -> Option<&[u8]>
     ensures { option_copied result ≡ bound_of after.now }
 {
     if after.is_empty() { None } else { Some(after) }
 }
 
-/// The name of the first live child above the bound.
+/// The name of the first live child after the bound, in byte order.
 fn next_after(state: &State, dir: Key, after: &[u8]) -> Result<Name, Refusal>
     ensures name { IfOk result
         (λ name. IsListing state.now.tree dir (bound_of after.now) 1 (name ∷ [])) }
@@ -131,7 +132,7 @@ fn next_after(state: &State, dir: Key, after: &[u8]) -> Result<Name, Refusal>
     }
 }
 
-/// The name of the first live child above the bound.
+/// The name of the first live child after the bound, in byte order.
 fn next_in(object: &Object, dir: Key, after: &[u8]) -> Result<Name, Refusal>
     ensures name { IfOk result (λ name. NextIn object.now dir after.now name) }
     ensures refused { IfErr result (λ why. NextRefusedIn object.now dir after.now why) }
@@ -142,7 +143,8 @@ fn next_in(object: &Object, dir: Key, after: &[u8]) -> Result<Name, Refusal>
     }
 }
 
-/// The name of the next child.
+/// Writes the name of the first live child after a name, in byte order, and returns the length. An empty
+/// `after` comes before each name.
 pub fn next(handle: &mut KtHandle, dir: KtKey, after: &[u8], out: &mut [u8]) -> i64
     ensures same { handle.new.place ≡ handle.old.place }
     ensures told { TellsText

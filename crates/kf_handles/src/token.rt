@@ -1,4 +1,4 @@
-//! The token of a hidden file: what can show it again, once it has seen that nobody is inside.
+//! The token of a hidden file. It can show the file again, once it has seen that nobody is inside.
 ghost use Rattle.std.specs.Prelude.{◌≡◌, true, false, MatchResult};
 ghost use Rattle.kf_core.specs.declared.caller.Phase.TheVariants as phase_of;
 ghost use Rattle.kf_words.specs.Callers.{IsSameSeat};
@@ -9,15 +9,15 @@ use kf_words::{Hidden, Hiding};
 use std::marker::Model;
 use std::mem::ManuallyDrop;
 
-/// How far it is.
+/// What a token has seen.
 pub enum Stage {
     /// Somebody may be inside.
     Hiding(Hiding),
-    /// It saw that nobody is.
+    /// The token has seen that nobody is inside.
     Hidden(Hidden),
 }
 
-/// What can show a hidden file again.
+/// A token, which can show a hidden file again.
 pub struct Token {
     stage: Stage,
 }
@@ -55,7 +55,7 @@ impl Token {
         }
     }
 
-    /// Whether it has yet to see that nobody is inside.
+    /// Whether the token has not yet seen that nobody is inside.
     pub fn is_hiding(&self) -> bool
         ensures hiding { result ≡ true → self.now.phase ≡ phase_of.Hiding }
         ensures hidden { result ≡ false → SawNobody self.now }
@@ -72,7 +72,8 @@ impl Token {
         }
     }
 
-    /// Looks whether nobody is inside, if it has not seen that yet.
+    /// Looks whether anybody is inside, unless the token has already seen that nobody is. Returns the token,
+    /// as the error if it saw somebody.
     pub fn look(self) -> Result<Token, Token>
         ensures looked { MatchResult result (λ saw. HasLookedAgain self saw)
             (λ back. HasLookedAgain self back) }
@@ -95,7 +96,8 @@ impl Token {
         }
     }
 
-    /// What shows the file again; the token where somebody is inside.
+    /// Turns the token into a `Hidden`, which can show the file again. First it looks, as `look` does. If it
+    /// saw somebody inside, it returns the token.
     pub fn into_hidden(self) -> Result<Hidden, Token>
         ensures same { MatchResult result (λ hidden. IsSameSeat self hidden) (λ back. IsSameSeat self back) }
         ensures looked { MatchResult result (λ hidden. HasLookedAgain self hidden)
@@ -115,8 +117,8 @@ impl Token {
     }
 }
 
-/// The word shows the key again, and the hold is given back. A file with somebody inside is left hidden: but
-/// a tree that has one is not dropped.
+/// Shows the key again, in its word, and releases the hold. If somebody is inside, the file stays hidden; but
+/// a tree that has such a file is not dropped.
 impl Drop for Token {
     fn drop(self) {
         match self.into_hidden() {

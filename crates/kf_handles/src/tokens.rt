@@ -1,5 +1,5 @@
-//! The tokens of a tree's hidden files, each in its file's slot. While one lies there the slot is not given
-//! again, so it is the slot's only one.
+//! The tokens of a tree's hidden files, each at its file's slot. While a token is there, the slot is not
+//! reused, so the slot gets no second token.
 ghost use Rattle.std.specs.Prelude.{◌≡◌, ◌<◌, IfErr, IfNone, IfOk, IfSome, None, Some, true, false, length, slice_set, replicate};
 ghost use Rattle.kf_words.specs.Callers.{Handle};
 ghost use Rattle.kf_handles.specs.Hiding.{IsTokenOf, IsSeen, HasHiding, HasNoHiding, SawNobody, SawSomebody};
@@ -8,7 +8,7 @@ use crate::token::Token;
 use kf_core::{Key, Refusal};
 use std::alloc::Global;
 
-/// No token, of this many slots.
+/// A list of this many slots without tokens.
 pub fn no_tokens(alloc: Global, slots: u32) -> Result<Vec<Option<Token>>, Refusal>
     ensures none { IfOk result (λ tokens. tokens.items ≡ replicate slots None) }
     ensures refused { IfErr result (λ why. why ≡ Refusal.NoMemory) }
@@ -46,7 +46,8 @@ pub fn put(tokens: &mut Vec<Option<Token>>, token: Token)
     tokens[slot] = Some(token);
 }
 
-/// Looks whether nobody is inside the file of a token, and puts that into its slot.
+/// Looks whether anybody is inside the file of a token, and puts the token into its slot. Returns true if the
+/// token has seen that nobody is inside.
 pub fn look_at(tokens: &mut Vec<Option<Token>>, token: Token) -> bool
     requires { token.key.slot < length tokens.old.items }
     ensures nobody { result ≡ true → IsSeen SawNobody tokens.old.items tokens.new.items token }

@@ -26,7 +26,7 @@ use kf_tree::State;
 use std::alloc::Global;
 use std::marker::{Brand, Model};
 
-/// A tree, the event numbers of its slots, and by slot the token of a hidden file.
+/// A tree, the event numbers of its slots, and for each slot the token of its file, if the file is hidden.
 #[derive(Drop)]
 pub struct Tree {
     nodes: NewTree,
@@ -45,7 +45,7 @@ impl Model for Tree {
 }
 
 impl Tree {
-    /// A new tree of only the root, with words for the look-ups of this many slots.
+    /// A new tree with only the root, and with words for the look-ups of this many slots.
     pub fn new(alloc: Global, limits: Limits, looks: u32) -> Result<Tree, Refusal>
         requires { looks ≤ most_slots }
         ensures tree { IfOk result
@@ -72,7 +72,7 @@ impl Tree {
         self.nodes.state()
     }
 
-    /// A post of a slot.
+    /// A new post of a slot.
     pub fn post(&mut self, slot: u32) -> Result<Post, Refusal>
         ensures same { self.new ≡ self.old }
         ensures made { IfOk result (λ post. IsNewPost self.old.posts slot post) }
@@ -104,7 +104,7 @@ impl Tree {
         looker_named::<Brand>(&mut self.nodes, alloc)
     }
 
-    /// Asks the tree, which stays in its place.
+    /// Asks the tree a question, in place.
     pub fn ask(&mut self, question: Question<'_>) -> TreeReply
         ensures told { TreeAnswered self.old.nodes.master.table question.entry self.old.nodes self.new.nodes
             result }
@@ -114,7 +114,7 @@ impl Tree {
         ask_named::<Brand>(&mut self.nodes, question)
     }
 
-    /// Makes a step of what may have to be asked again.
+    /// Makes one step of a task that may have to be asked for again.
     pub fn step(&mut self, task: Task) -> TreeReply
         ensures told { Stepped self.old.nodes.master.table task self.old.nodes self.old.hidden self.new.nodes
             self.new.hidden result }
@@ -124,7 +124,7 @@ impl Tree {
     }
 }
 
-/// Asks the nodes under this name.
+/// Asks the nodes a question, with `N` as their name.
 fn ask_named<N: Naming>(nodes: &mut NewTree, question: Question<'_>) -> TreeReply
     requires { nodes.old.master.table ≡ N.table }
     ensures told { TreeAnswered nodes.old.master.table question.entry nodes.old nodes.new result }
@@ -136,7 +136,7 @@ fn ask_named<N: Naming>(nodes: &mut NewTree, question: Question<'_>) -> TreeRepl
     reply
 }
 
-/// A looker of the nodes under this name.
+/// A looker of the nodes, with `N` as their name.
 fn looker_named<N: Naming>(nodes: &mut NewTree, alloc: Global) -> Result<TreeLooker, Refusal>
     requires { nodes.old.master.table ≡ N.table }
     ensures made { IfOk result (λ looker. IsLookerOf nodes.old.master.table nodes.old looker) }
@@ -146,7 +146,7 @@ fn looker_named<N: Naming>(nodes: &mut NewTree, alloc: Global) -> Result<TreeLoo
     TreeLooker::of(alloc, nodes.lent::<N>())
 }
 
-/// Makes a step.
+/// Makes one step of a task, in a locked tree and its tokens.
 fn step_locked<N: Naming>(
     locked: &mut Locked<N>,
     tokens: &mut Vec<Option<Token>>,
@@ -163,7 +163,7 @@ fn step_locked<N: Naming>(
     }
 }
 
-/// Makes a step of the nodes and the tokens under this name.
+/// Makes one step of a task in the nodes and the tokens, with `N` as the nodes' name.
 fn step_named<N: Naming>(
     nodes: &mut NewTree,
     hidden: &mut Vec<Option<Token>>,

@@ -1,4 +1,4 @@
-//! A looker behind a handle: it looks paths up without the tree's lock, and makes holds of what it finds.
+//! A looker behind a handle: it looks up paths without the tree's lock, and makes holds of what it finds.
 ghost use Rattle.std.specs.Prelude.{IfErr, IfOk};
 ghost use Rattle.kf_shared.specs.Locked.{Unchanged};
 ghost use Rattle.kf_handles.specs.Lookers.{IsLookerOf, NoLooker};
@@ -10,7 +10,7 @@ use kf_words::Holds;
 use std::alloc::Global;
 use std::marker::Model;
 
-/// What one thread looks paths up by, and makes holds by. It may outlive the tree.
+/// A looker, by which one thread looks up paths and makes holds. It may outlive the tree.
 pub struct TreeLooker {
     pub(crate) looker: Lookup,
     pub(crate) holds: Holds,
@@ -25,7 +25,8 @@ impl Model for TreeLooker {
 }
 
 impl TreeLooker {
-    /// A looker of a tree, which keeps a hold of the root. It was informed of all that the tree says now.
+    /// A looker of a tree, which keeps a hold of the root. If it has slots for look-ups, it has now seen all
+    /// that the tree says of its live nodes.
     pub fn of<N: Naming>(alloc: Global, locked: &mut Locked<N>) -> Result<TreeLooker, Refusal>
         ensures made { IfOk result (λ looker. IsLookerOf N.table locked.old looker) }
         ensures refused { IfErr result (λ why. NoLooker locked.old locked.new why) }
@@ -44,7 +45,7 @@ impl TreeLooker {
     }
 }
 
-/// Its own hold of the root is released.
+/// Releases the looker's own hold of the root.
 impl Drop for TreeLooker {
     fn drop(self) {
         let TreeLooker { looker: _, holds } = self;

@@ -8,7 +8,7 @@ use Rattle.kf_words.specs.Callers.{Handle}
 abbrev pub kept_by : List (KeeperState Handle) → List Handle
 kept_by gates = map (λ gate. gate.kept) gates
 
--- their openings, and the last openings of gates that are closed
+-- the openings of these gates; and, below, the last openings of closed gates
 abbrev pub openings : List (KeeperState Handle) → List Opening
 openings gates = map opening_of gates
 

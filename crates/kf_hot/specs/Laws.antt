@@ -1,4 +1,4 @@
--- Callers inside a gate, by what the words say of the gate's call.
+-- Callers inside a gate, and what the words say of the gate's call.
 use Rattle.std.specs.Prelude.{◌⊎◌, ℕ, IsTrue}
 use Rattle.kf_core.specs.declared.key.Key.{Key}
 use Rattle.kf_core.specs.declared.caller.Phase.{Phase}
@@ -11,16 +11,16 @@ use Rattle.kf_gates.specs.declared.view.GateView.TheVariants.{Keeps, Inside}
 use Rattle.kf_gates.specs.Rule.{Table, Kept}
 use Rattle.kf_gates.specs.Laws.{Has, IsOver}
 
--- the keeper saw every lane empty since it shut the gate
+-- the keeper has seen every lane empty since it shut the gate
 abbrev pub IsClosed : ℕ → Table → Type 0
 IsClosed lanes t = (p : GatePlan) × ((n : ℕ) × Has t 0 (Keeps p n)) × IsOver lanes p
 
--- until the gate is closed, the call that it keeps is running on the key. A `Keeper` owns that call, and
--- only the calls that see the gate closed give it back
+-- the gate is closed, or the call that it keeps is running on the key (a `Keeper` owns that call, and only
+-- functions that have seen the gate closed return it)
 abbrev pub KeepsCall : ℕ → Table → BareWorld → ℕ → Key → Type 0
 KeepsCall lanes t w c key = IsClosed lanes t ⊎ IsCaller w c key Running
 
--- while somebody is inside, no caller of the key is Drained, Parted or Hidden
+-- while somebody is inside the gate, no caller of the key is Drained, Parted or Hidden
 abbrev pub InsideIsCovered : Type 0
 InsideIsCovered = (lanes : ℕ) (t : Table) → Kept lanes t → (w : BareWorld) → Safe w
     → (c : ℕ) (key : Key) → KeepsCall lanes t w c key

@@ -1,4 +1,4 @@
--- A pass with the key of a hot node, and a call by it.
+-- A pass with the key of a hot node, and a call by such a pass.
 use Rattle.std.specs.Prelude.{◌≡◌, ℕ}
 use Rattle.kf_core.specs.declared.key.Key.{Key}
 use Rattle.kf_core.specs.declared.caller.Phase.TheVariants.{Running}
@@ -15,11 +15,11 @@ pub record HotCallState : Type 0 where
   pub call : CallState
   pub key : Key
 
--- the same call, of the same node
+-- it is the same call, of the same node
 abbrev pub IsSameHotCall : HotCallState → HotCallState → Type 0
 IsSameHotCall old new = IsSameCall old.call new.call × (new.key ≡ old.key)
 
--- its look found the gate open under the pass's number, and the call is inside
+-- the pass's look found the gate open under the pass's number, and the call is inside
 pub record WasLetIn (before : HotPassState) (call : HotCallState) : Type 0 where
   pub seat : call.call.seat ≡ before.pass.seat
   pub lane : call.call.lane ≡ before.pass.lane
@@ -28,7 +28,7 @@ pub record WasLetIn (before : HotPassState) (call : HotCallState) : Type 0 where
   pub running : call.call.phase ≡ Running
   pub inside : call.call.view ≡ Inside before.pass.lane before.number
 
--- its look found the gate not open under the pass's number, and it does not count there
+-- the pass's look found the gate not open under the pass's number, and the pass does not count in its lane
 pub record WasTurnedAway (before after : HotPassState) : Type 0 where
   pub seat : after.pass.seat ≡ before.pass.seat
   pub lane : after.pass.lane ≡ before.pass.lane
@@ -44,7 +44,7 @@ pub record WentOut (call : HotCallState) (after : HotPassState) : Type 0 where
   pub number : after.number ≡ call.call.number
   pub outside : after.pass.view ≡ stepped_off call.call.view
 
--- the same, as the members of a guard, which keeps nothing
+-- the same three facts, as members of a guard that has no state
 module _ {G : Type 0} where
   abbrev pub lets_in : G → HotPassState → HotCallState → G → Type 0
   lets_in _ pass call _ = WasLetIn pass call

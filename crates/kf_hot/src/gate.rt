@@ -1,4 +1,4 @@
-//! A node is made hot, and is so no longer.
+//! Making a node hot by opening a gate, and ending that by closing the gate.
 ghost use Rattle.std.specs.Prelude.{◌≡◌, ◌+◌, true, false, IfErr, IfOk};
 ghost use Rattle.kf_core.specs.Phases.{has_reference};
 ghost use Rattle.kf_core.specs.declared.caller.Phase.TheVariants as phase_of;
@@ -10,8 +10,8 @@ use kf_gates::{Closed, Keeper};
 use kf_words::{Call, Hold};
 use std::sync::Wait;
 
-/// Opens a gate for the hold's node: the gate keeps a call of it. Both come back if the node is not live or
-/// its key is hidden, or if the gate has had 2^32 openings.
+/// Makes the hold's node hot: opens the gate, which then keeps a call of the node. The gate and the hold are
+/// returned if the node is not live (also if its key is hidden), or if the gate has had 2^32 openings.
 pub fn open_gate(closed: Closed, hold: Hold) -> Result<Keeper<Call>, (Closed, Hold)>
     ensures kept { IfOk result (λ keeper. IsSameSeat hold keeper.kept) }
     ensures running { IfOk result (λ keeper. keeper.kept.phase ≡ phase_of.Running) }
@@ -29,7 +29,8 @@ pub fn open_gate(closed: Closed, hold: Hold) -> Result<Keeper<Call>, (Closed, Ho
     }
 }
 
-/// Shuts the gate and waits until nobody is inside. Then its call leaves the node.
+/// Shuts the gate, waits until nobody is inside, and ends the gate's call. Returns the closed gate and the
+/// hold.
 ///
 /// Condition: the gate's call is Running or Restored.
 ///

@@ -1,4 +1,5 @@
-//! Passes through the gate of a hot node, as any guard goes: an open file of the node is then read by passes.
+//! A guard for passes through the gate of a hot node, so that threads can use an open file of the node by
+//! their passes.
 ghost use Rattle.std.specs.Prelude.{◌≡◌};
 ghost use Rattle.kf_core.specs.declared.caller.Phase.TheVariants as phase_of;
 ghost use Rattle.kf_hot.specs.Passes.{IsSameHotCall};
@@ -8,7 +9,8 @@ use kf_gates::{GateCall, Keeper, Pass};
 use kf_words::Call;
 use std::marker::Model;
 
-/// A pass through the gate of the node of a key, under the number of the gate's opening.
+/// A pass through a gate, with the key of the node that the gate keeps a call of, and the number of the
+/// gate's opening.
 #[derive(Drop)]
 pub struct HotPass {
     pass: Pass,
@@ -25,10 +27,10 @@ impl Model for HotPass {
 }
 
 impl HotPass {
-    /// The pass by which the node is called that the gate keeps a call of. After the gate was closed it is
-    /// refused, also if the gate is open for another node.
+    /// A pass for the node that the gate keeps a call of. Once the gate has been closed, this pass is
+    /// refused, even if the gate is open again for another node.
     ///
-    /// Condition: the pass is of this gate.
+    /// Condition: the pass is a pass of this gate.
     pub fn new(keeper: &Keeper<Call>, pass: Pass) -> HotPass
         requires gate { pass.seat.gate ≡ keeper.now.seat.gate }
         ensures pass { result.pass ≡ pass }
@@ -42,7 +44,7 @@ impl HotPass {
         }
     }
 
-    /// The same pass, of whichever node.
+    /// The pass without the node and the number, so that it can be used for another node.
     pub fn into_pass(self) -> Pass
         ensures { result ≡ self.pass }
     {
@@ -55,8 +57,8 @@ impl HotPass {
     }
 }
 
-/// Is inside the gate of the node of a key, or broke its protection there. It must be spent, by the guard's
-/// `leave`.
+/// A call by a `HotPass`: it is inside the gate, or broke its protection there. It must be passed to the
+/// guard's `leave`.
 pub struct HotCall {
     call: GateCall,
     key: Key,
@@ -71,7 +73,7 @@ impl Model for HotCall {
 }
 
 impl HotCall {
-    /// Breaks its protection inside the callback: the gate's keeper no longer waits for it.
+    /// Breaks the call's protection inside its callback: the gate's keeper no longer waits for the call.
     ///
     /// Condition: Running.
     pub fn break_protection(&mut self)
@@ -82,7 +84,8 @@ impl HotCall {
         self.call.break_protection();
     }
 
-    /// Counts in its lane again, whatever became of the node. It is not inside.
+    /// Counts the call in its lane again, whatever has become of the node. The call does not get inside
+    /// again.
     ///
     /// Condition: Broken.
     pub fn restore(&mut self)
@@ -110,7 +113,7 @@ impl ActiveCall for HotCall {
     }
 }
 
-/// The guard of such passes. It keeps nothing: each pass has its gate.
+/// The guard for passes of hot nodes. It has no state, since each pass has its gate.
 #[derive(Drop)]
 pub struct HotPasses;
 

@@ -1,4 +1,4 @@
-//! Removal of nodes that many threads call through gates.
+//! The removal of nodes that many threads call through gates.
 ghost use Rattle.std.specs.Prelude.{◌≡◌, ◌+◌, ◌≤◌, [], IfErr, IfOk, OnOk, vec_capacity, vec_len};
 ghost use Rattle.kf_shared.specs.Locked.{history};
 ghost use Rattle.kf_shared.specs.Removal.{keys_of};
@@ -47,8 +47,8 @@ fn close_each<R: Wait>(rt: &R, gates: Vec<Keeper<Call>>, mut closed: Vec<Closed>
     closed
 }
 
-/// Closes each of these gates, one after the other, ends its call and releases the hold: for gates that came
-/// back from a removal that was refused.
+/// Closes each of these gates, one after the other, ends its call and releases the hold. It is meant for the
+/// gates that a refused removal returns.
 ///
 /// Condition: each call has its reference.
 ///
@@ -65,19 +65,20 @@ pub fn close_gates<R: Wait>(rt: &R, gates: Vec<Keeper<Call>>)
     rest.destroy_empty();
 }
 
-/// As [`Editor::remove`], of nodes that are called through these gates (`percpu_ref_kill` and
+/// Like [`Editor::remove`], but the nodes are called through these gates (`percpu_ref_kill` and
 /// `percpu_ref_exit`). In one critical section it marks the nodes and shuts the gates. Once it has released
-/// the lock, it waits until nobody is inside a gate, and ends the gates' calls; then it waits for all other
-/// callers as `remove` does. The gates come back closed, in their order. A caller that tries a gate between
-/// the mark and the shutting is let in, and the removal waits for it.
+/// the lock, it waits until nobody is inside a gate, and ends the gates' calls. Then it waits for all other
+/// callers, as `remove` does. It returns the gates closed, in their order. A caller that tries a gate after
+/// the mark and before the gate is shut gets in, and the removal waits for it.
 ///
-/// Like `remove` it may never return. A callback that runs inside one of the gates breaks its protection
-/// before it calls this, or waits for itself.
+/// Like `remove`, it may never return. A callback that runs inside one of the gates must break its protection
+/// before it calls this function. Otherwise the callback waits for itself.
 ///
 /// Conditions: the hold is of this table, and each gate's call is Running or Restored.
 ///
-/// Refusals: those of `doom`; NoMemory also if the list of the closed gates has no room. After a refusal
-/// nothing is marked, the gates are as they were, the lock is released, and all comes back.
+/// Refusals: those of `doom`; NoMemory also if there is no memory for the list of the closed gates. After a
+/// refusal nothing is marked, the gates are as they were, the lock is released, and the hold and the gates
+/// are returned.
 ///
 /// Context: sleeps, once it has released the lock.
 pub fn remove_gated<N: Naming, R: Wait>(
@@ -118,7 +119,7 @@ pub fn remove_gated<N: Naming, R: Wait>(
     }
 }
 
-/// Why the removal of a node is refused if there is no memory before anything was looked at.
+/// Why the removal of a node is refused if memory runs out before anything else has been tested.
 fn refused_first(state: &State, key: Key) -> Refusal
     ensures { RemovalRefused state.now.tree state.now.root key result }
 {

@@ -1,4 +1,4 @@
-//! Open files of a hot node, by one thread: they are used while the gate is open, and refused afterwards.
+//! Open files of a hot node, in one thread: they work while the gate is open, and are refused afterwards.
 ghost use Rattle.std.specs.Prelude.{◌≡◌, true};
 ghost use Rattle.kf_core.specs.Phases.{has_reference};
 
@@ -43,7 +43,8 @@ fn use_file<R: Abort>(rt: &R, file: &mut OpenFile<HotPasses>, posts: &mut Posts,
     assert!(rt; !file.poll(&mut passes));
 }
 
-/// A pass opens a file of a live node, and comes back from it with the post. Both can be used again.
+/// A pass opens a file of a live node. Closing the file returns the pass and the post, and both can be used
+/// again.
 fn live<N: Naming, R: Abort + Wait>(rt: &R, alloc: Global, new: NewTree)
     requires { new.master.table ≡ N.table }
 {
@@ -76,7 +77,8 @@ struct Ready {
     post: Post,
 }
 
-/// Opens a file of this slot by one pass of the gate, and reads it. Another pass of the gate is left.
+/// Opens a file of this slot by one pass of the gate, and reads it. A second pass of the gate is kept for
+/// later.
 fn read_once<R: Abort>(
     rt: &R,
     keeper: &Keeper<Call>,
@@ -102,8 +104,8 @@ fn read_once<R: Abort>(
     }
 }
 
-/// A read, a write, a poll and an open find that the node is not live, and make no callback. All that came
-/// back is returned.
+/// A read, a write, a poll and an open find that the node is not live, and run no callback. Returns the file,
+/// its callbacks, the pass and the post.
 fn refuses<R: Abort>(rt: &R, ready: Ready) -> Ready
     ensures seat { result.pass.pass.seat ≡ ready.pass.pass.seat }
 {
@@ -131,7 +133,7 @@ fn refuses<R: Abort>(rt: &R, ready: Ready) -> Ready
     }
 }
 
-/// Closes the file. Its pass and the other are refused, and both posts have the slot's first number.
+/// Closes the file. Its pass and the other one are refused, and both posts find the slot's first number.
 fn released<R: Abort>(rt: &R, ready: Ready) {
     let Ready {
         file,
@@ -146,7 +148,7 @@ fn released<R: Abort>(rt: &R, ready: Ready) {
     refused(rt, &mut passes, pass);
 }
 
-/// The pass that came back opens a file of the gate's next opening, while the first file stays refused.
+/// The pass that was returned opens a file for the gate's next opening. The first file is still refused.
 fn opens_next<R: Abort>(rt: &R, keeper: &Keeper<Call>, ready: Ready)
     requires gate { ready.pass.pass.seat.gate ≡ keeper.now.seat.gate }
 {
@@ -166,8 +168,8 @@ fn opens_next<R: Abort>(rt: &R, keeper: &Keeper<Call>, ready: Ready)
     refused(rt, &mut HotPasses, pass);
 }
 
-/// Closes a gate that is shut, at the first try: no try that was refused counts in a lane. The hold is
-/// released.
+/// Closes a gate that is shut, at the first attempt, since no refused pass still counts in a lane. Releases
+/// the hold.
 fn closed_at_once<R: Abort>(rt: &R, keeper: Keeper<Call>) -> Closed
     requires shut { keeper.plan.shut ≡ true }
     requires inside { has_reference keeper.kept.phase ≡ true }
@@ -182,8 +184,8 @@ fn closed_at_once<R: Abort>(rt: &R, keeper: Keeper<Call>) -> Closed
     }
 }
 
-/// A file is refused once its gate is shut, once it is closed, and when it is open again for the same node:
-/// that needs a new file.
+/// A file is refused once its gate is shut, once the gate is closed, and also when the gate is open again for
+/// the same node: a new file is needed then.
 fn shut<N: Naming, R: Abort + Wait>(rt: &R, alloc: Global, new: NewTree)
     requires { new.master.table ≡ N.table }
 {
@@ -203,7 +205,7 @@ fn shut<N: Naming, R: Abort + Wait>(rt: &R, alloc: Global, new: NewTree)
     close_gate(rt, keeper).1.release();
 }
 
-/// A file is refused once its node was removed through the gate, also when the gate is open for another.
+/// A file is refused once its node was removed through the gate, even when the gate is open for another node.
 fn removed<N: Naming, R: Abort + Wait>(rt: &R, alloc: Global, new: NewTree)
     requires { new.master.table ≡ N.table }
 {

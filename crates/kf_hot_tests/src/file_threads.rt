@@ -20,18 +20,18 @@ use std::sync::atomic::{AtomicU64, Ordering};
 use std::sync::{Mutex, Wait};
 use std::thread::{Threads, join};
 
-/// How many files are read and removed.
+/// How many files are read and removed, one after the other.
 const LIVES: u64 = 100;
 
-/// What the threads of one life share.
+/// What the threads share during one file's life.
 #[derive(Drop)]
 struct Life {
     /// The node of the file.
     key: Key,
     counts: Counts,
-    /// The shows that run now.
+    /// How many shows are running.
     shows: AtomicU64,
-    /// The file as it was opened for each reader, until the reader takes it.
+    /// The file that was opened for each reader, until the reader takes it.
     one: Mutex<Option<OpenFile<HotPasses>>>,
     two: Mutex<Option<OpenFile<HotPasses>>>,
 }
@@ -47,7 +47,8 @@ struct Shows<'a, N: Naming, R: Wait> {
 }
 
 impl<'a, N: Naming, R: Wait> Shows<'a, N, R> {
-    /// Counts the first show, and stays in it if it is to.
+    /// Counts the first show. If `stays` is set, it stays in this show until the node is doomed, and a little
+    /// longer.
     fn first(&self) {
         let counts = &self.life.counts;
         add(&counts.inside);
@@ -72,7 +73,7 @@ impl<'a, N: Naming, R: Wait> Ops<HotCall> for Shows<'a, N, R> {
 
     ghost stores = { λ _ _ _ _ _. Unit {0} };
 
-    // No removal returns while it runs.
+    // No removal may return while the show runs.
     fn show(&mut self, _call: &mut HotCall, _tag: u64, page: &mut Page) -> Result<(), Fault> {
         self.life.shows.fetch_add(1, Ordering::SeqCst);
         add_if(is_removed(self.life), &self.life.counts.wrong);
@@ -92,8 +93,8 @@ impl<'a, N: Naming, R: Wait> Ops<HotCall> for Shows<'a, N, R> {
     }
 }
 
-/// Reads the file again and again, and once more after the removal has returned. Returns what that read
-/// returned. Once a read was refused, each later one is.
+/// Reads the file again and again, and once more after the removal has returned. Returns the result of that
+/// last read. Once a read was refused, each later read must be refused too.
 fn read_until_removed<N: Naming, R: Wait>(
     rt: &R,
     ops: &mut Shows<'_, N, R>,
@@ -120,7 +121,7 @@ fn read_until_removed<N: Naming, R: Wait>(
     last
 }
 
-/// The file of one reader, once it was opened.
+/// Waits until the file of one reader has been opened, and takes it.
 fn taken<R: Abort + Wait>(
     rt: &R,
     opened: &AtomicU64,
@@ -133,7 +134,7 @@ fn taken<R: Abort + Wait>(
     }
 }
 
-/// Reads the file until its node was removed. Then each call on it is refused, and so is its pass.
+/// Reads the file until its node has been removed. Then each call on the file is refused, and so is its pass.
 fn reads_to_the_end<N: Naming, R: Abort + Wait>(
     rt: &R,
     tree: &SharedTree<N>,
@@ -157,8 +158,8 @@ fn reads_to_the_end<N: Naming, R: Abort + Wait>(
     refused(rt, &mut HotPasses, pass);
 }
 
-/// Makes the node hot, and opens the file by a pass for each reader. Once a show of each has run or runs, it
-/// removes the node by its gate. From then on no show runs.
+/// Makes the node hot, and opens the file by a pass for each reader. Once a show of each reader has begun, it
+/// removes the node through its gate. From then on no show may run.
 fn opens_and_removes<N: Naming, R: Abort + Wait>(
     rt: &R,
     alloc: Global,
@@ -181,7 +182,7 @@ fn opens_and_removes<N: Naming, R: Abort + Wait>(
     }
 }
 
-/// One life of the file: two threads read it, by two lanes, and a third removes it.
+/// One file's life: two threads read it, in two lanes, and a third thread removes it.
 fn live<N: Naming + Send + Sync, R: Threads + Abort + Wait + Sync>(
     rt: &R,
     alloc: Global,

@@ -1,4 +1,4 @@
-//! Open files of a hot node: what the tests of such files build on.
+//! What the tests of a hot node's open files have in common.
 ghost use Rattle.std.specs.Prelude.{◌≡◌};
 
 use kf_core::{ActiveCall, Key, Node, Refusal};
@@ -20,13 +20,13 @@ pub(crate) const FILE: Node = Node::File {
 /// What a call on a file returns if its node is not live.
 pub(crate) const GONE: FileError = FileError::Refused(Refusal::NoDevice);
 
-/// The callbacks of one file: a show gives the text, and a store replaces it.
+/// The callbacks of one file: a show fills the page with the text, and a store replaces the text.
 #[derive(Drop)]
 pub(crate) struct Text {
     text: Page,
-    /// How often a callback was called.
+    /// How many callbacks have run.
     pub(crate) calls: u64,
-    /// The node and the tag that the last callback was called for.
+    /// The node and the tag of the last callback.
     pub(crate) last: Option<(Key, u64)>,
 }
 
@@ -67,7 +67,7 @@ impl Ops<HotCall> for Text {
     }
 }
 
-/// Numbers of the 8 slots.
+/// The event numbers of the 8 slots.
 pub(crate) fn posts_of<R: Abort>(rt: &R, alloc: Global) -> Posts {
     match Posts::new(alloc, 8) {
         Ok(posts) => posts,
@@ -84,7 +84,7 @@ pub(crate) fn post_at<R: Abort>(rt: &R, posts: &mut Posts, slot: u32) -> Post {
     }
 }
 
-/// Raises the number of this slot, and returns the new one.
+/// Raises the event number of this slot, and returns the new number.
 pub(crate) fn tell<R: Abort>(rt: &R, posts: &mut Posts, slot: u32) -> u64 {
     assert!(rt; slot < posts.slots(), "the slot has a number");
     match posts.notify(slot) {
@@ -101,7 +101,7 @@ pub(crate) fn opened_by<R: Abort>(rt: &R, pass: HotPass, post: Post) -> OpenFile
     }
 }
 
-/// Tries to open the file by this pass, which must be refused. The pass and the post come back.
+/// Tries to open the file by this pass, which must be refused. Returns the pass and the post.
 pub(crate) fn not_opened<R: Abort>(rt: &R, pass: HotPass, post: Post) -> (HotPass, Post)
     ensures seat { result.0.pass.seat ≡ pass.pass.seat }
 {
@@ -114,7 +114,7 @@ pub(crate) fn not_opened<R: Abort>(rt: &R, pass: HotPass, post: Post) -> (HotPas
     }
 }
 
-/// Reads from this offset on. That must give this text.
+/// Reads from this offset on, which must return this text.
 pub(crate) fn reads<R: Abort>(
     rt: &R,
     file: &mut OpenFile<HotPasses>,

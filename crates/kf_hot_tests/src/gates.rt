@@ -1,4 +1,4 @@
-//! Gates by one thread: lanes, passes, openings, and a protection that is broken.
+//! Gates in one thread: lanes, passes, openings, and a protection that is broken.
 ghost use Rattle.std.specs.Prelude.{◌≡◌, false, true};
 ghost use Rattle.kf_core.specs.declared.caller.Phase.TheVariants as phase_of;
 
@@ -24,7 +24,7 @@ pub(crate) fn gate<R: Abort>(rt: &R, alloc: Global, lanes: u64) -> (Closed, Pass
     }
 }
 
-/// Another pass of the same gate, by this lane.
+/// Another pass of the same gate, in this lane.
 pub(crate) fn another<R: Abort>(rt: &R, pass: &mut Pass, lane: u64) -> Pass
     ensures same { pass.new.seat ≡ pass.old.seat }
     ensures gate { result.seat.gate ≡ pass.old.seat.gate }
@@ -63,7 +63,7 @@ fn open<R: Abort>(rt: &R, closed: Closed, kept: u64) -> Keeper<u64>
     }
 }
 
-/// Somebody is inside.
+/// Tries to close the gate, which must fail since somebody is inside.
 fn not_closed<R: Abort>(rt: &R, keeper: Keeper<u64>) -> Keeper<u64>
     requires shut { keeper.plan.shut ≡ true }
     ensures shut { result.plan.shut ≡ true }
@@ -74,7 +74,7 @@ fn not_closed<R: Abort>(rt: &R, keeper: Keeper<u64>) -> Keeper<u64>
     }
 }
 
-/// Nobody is inside, and this value comes back.
+/// Closes the gate, which must succeed since nobody is inside, and must return this value.
 fn closed_with<R: Abort>(rt: &R, keeper: Keeper<u64>, kept: u64) -> Closed
     requires shut { keeper.plan.shut ≡ true }
 {
@@ -87,7 +87,7 @@ fn closed_with<R: Abort>(rt: &R, keeper: Keeper<u64>, kept: u64) -> Closed
     }
 }
 
-/// Each number of lanes around both bounds.
+/// Gates with the least and the greatest number of lanes, and refusals just outside these bounds.
 pub(crate) fn lanes<R: Abort>(rt: &R, alloc: Global) {
     assert!(rt; refused(alloc, 0) && refused(alloc, MOST_LANES + 1) && refused(alloc, u64::MAX));
     let (closed, _) = gate(rt, alloc, 1);
@@ -102,15 +102,15 @@ pub(crate) fn lanes<R: Abort>(rt: &R, alloc: Global) {
     closed_with(rt, keeper, 3);
 }
 
-/// Two are inside by two lanes, and the gate is closed once both have left. Then it opens under the next
-/// number.
+/// Two callers are inside, in two lanes, and the gate is closed once both have left. Then it opens under the
+/// next number.
 pub(crate) fn openings<R: Abort>(rt: &R, alloc: Global) {
     let (closed, mut first) = gate(rt, alloc, 2);
     let second = another(rt, &mut first, 7);
     let first = turned_away(rt, first, 0); // a new gate is shut
     let mut keeper = open(rt, closed, 11);
     assert!(rt; keeper.number() == 1 && !keeper.is_shut() && *keeper.kept() == 11);
-    let first = turned_away(rt, first, 2); // and not open under this number
+    let first = turned_away(rt, first, 2); // the gate is not open under this number
     let first = enter(rt, first, 1);
     let second = enter(rt, second, 1);
     keeper.shut();
@@ -123,7 +123,7 @@ pub(crate) fn openings<R: Abort>(rt: &R, alloc: Global) {
     assert!(rt; closed.number() == 1);
     let first = turned_away(rt, first, 1);
     let mut keeper = open(rt, closed, 12);
-    let first = turned_away(rt, first, 1); // of the opening before
+    let first = turned_away(rt, first, 1); // the number of the previous opening
     let call = enter(rt, first, 2);
     call.leave();
     turned_away(rt, second, 1);
@@ -131,7 +131,8 @@ pub(crate) fn openings<R: Abort>(rt: &R, alloc: Global) {
     closed_with(rt, keeper, 12);
 }
 
-/// A caller that breaks its protection keeps no gate open, and counts again when it is restored.
+/// A caller that broke its protection does not keep the gate from being closed. It counts again once it is
+/// restored.
 pub(crate) fn broken<R: Abort>(rt: &R, alloc: Global) {
     let (closed, pass) = gate(rt, alloc, 3);
     let mut keeper = open(rt, closed, 5);

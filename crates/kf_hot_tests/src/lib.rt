@@ -1,6 +1,6 @@
-//! The tests of gates, of hot nodes and their open files, and of registries, over the public calls of
-//! `kf_gates`, `kf_hot`, `kf_registry`, `kf_shared` and `kf_files`: proved over these crates, and not with
-//! them.
+//! Tests of gates, of hot nodes and their open files, and of registries, through the public calls of
+//! `kf_gates`, `kf_hot`, `kf_registry`, `kf_shared` and `kf_files`. They are proved against the contracts of
+//! these crates, and not together with them.
 #![tactic(auto)]
 
 #[cfg(test)]

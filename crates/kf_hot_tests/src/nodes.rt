@@ -1,4 +1,4 @@
-//! Hot nodes among threads: what each thread does.
+//! What each thread does in the tests of hot nodes.
 ghost use Rattle.std.specs.Prelude.{◌≡◌, true};
 ghost use Rattle.kf_core.specs.Phases.{has_reference};
 ghost use Rattle.kf_core.specs.declared.caller.Phase.TheVariants as phase_of;
@@ -13,18 +13,18 @@ use std::process::Abort;
 use std::sync::Wait;
 use std::sync::atomic::{AtomicU64, Ordering};
 
-/// What the threads count.
+/// The counters that the threads share.
 #[derive(Drop)]
 pub(crate) struct Counts {
-    /// The gate was opened, or could not be.
+    /// How often a gate was opened.
     pub(crate) opened: AtomicU64,
-    /// Callers that have been inside, each once.
+    /// How many callers have been inside, each counted once.
     pub(crate) inside: AtomicU64,
-    /// The caller that stays inside may leave.
+    /// Not 0 once the caller that stays inside may leave.
     pub(crate) released: AtomicU64,
-    /// The removal returned.
+    /// How many removals have returned.
     pub(crate) removed: AtomicU64,
-    /// What was found and must not be.
+    /// How many errors were found.
     pub(crate) wrong: AtomicU64,
 }
 
@@ -38,7 +38,7 @@ pub(crate) fn no_counts() -> Counts {
     }
 }
 
-/// Waits, for some time at most, until this number is counted.
+/// Waits until the count has reached this number. Returns false if that takes too long.
 pub(crate) fn wait_for(count: &AtomicU64, wanted: u64) -> bool {
     for _ in 0..4_000_000_000u64 {
         if count.load(Ordering::SeqCst) >= wanted {
@@ -58,7 +58,7 @@ pub(crate) fn add_if(wrong: bool, count: &AtomicU64) {
     }
 }
 
-/// A live node of this name below the root.
+/// Creates a live node of this name in the root.
 pub(crate) fn create_node<N: Naming, R: Abort + Wait>(
     rt: &R,
     tree: &SharedTree<N>,
@@ -73,7 +73,7 @@ pub(crate) fn create_node<N: Naming, R: Abort + Wait>(
     }
 }
 
-/// A live directory of this name below the root.
+/// Creates a live directory of this name in the root.
 pub(crate) fn create<N: Naming, R: Abort + Wait>(rt: &R, tree: &SharedTree<N>, name: &[u8]) -> Key {
     create_node(rt, tree, name, Node::Dir)
 }
@@ -87,7 +87,7 @@ pub(crate) fn hold<N: Naming, R: Abort + Wait>(rt: &R, tree: &SharedTree<N>, key
     }
 }
 
-/// The gate of a node, open.
+/// Opens the gate of a node.
 pub(crate) fn opened<N: Naming, R: Abort + Wait>(
     rt: &R,
     tree: &SharedTree<N>,
@@ -106,7 +106,7 @@ pub(crate) fn opened<N: Naming, R: Abort + Wait>(
     }
 }
 
-/// Goes in and out until it is refused. Nobody is let in once the removal has returned.
+/// Goes in and out until the pass is refused. Once the removal has returned, the pass must not get in.
 pub(crate) fn call<R: Wait>(rt: &R, mut pass: Pass, number: u64, counts: &Counts) {
     add_if(!wait_for(&counts.opened, number), &counts.wrong);
     let mut first = true;
@@ -126,7 +126,7 @@ pub(crate) fn call<R: Wait>(rt: &R, mut pass: Pass, number: u64, counts: &Counts
     }
 }
 
-/// Is inside until it may leave. No removal returns before.
+/// Stays inside until it may leave. No removal may return before that.
 pub(crate) fn stay(pass: Pass, number: u64, counts: &Counts) {
     add_if(!wait_for(&counts.opened, number), &counts.wrong);
     match pass.enter(number) {
@@ -140,8 +140,8 @@ pub(crate) fn stay(pass: Pass, number: u64, counts: &Counts) {
     }
 }
 
-/// Opens the gate, waits until this number of callers have been inside, and removes the node. The closed gate
-/// comes back.
+/// Opens the gate, waits until this number of callers have been inside, and removes the node. Returns the
+/// closed gate.
 pub(crate) fn remove<N: Naming, R: Abort + Wait>(
     rt: &R,
     alloc: Global,
@@ -157,7 +157,7 @@ pub(crate) fn remove<N: Naming, R: Abort + Wait>(
     remove_by_gate(rt, alloc, tree, key, keeper, counts)
 }
 
-/// Removes the node of an open gate by `remove_gated`. The closed gate comes back.
+/// Removes the node of an open gate by `remove_gated`. Returns the closed gate.
 pub(crate) fn remove_by_gate<N: Naming, R: Abort + Wait>(
     rt: &R,
     alloc: Global,
@@ -193,7 +193,7 @@ pub(crate) fn remove_by_gate<N: Naming, R: Abort + Wait>(
     }
 }
 
-/// Lets the one that stays inside leave, once the node is doomed.
+/// Lets the caller that stays inside leave, once the node is doomed.
 pub(crate) fn release_once_doomed<N: Naming, R: Wait>(
     rt: &R,
     tree: &SharedTree<N>,
@@ -234,7 +234,7 @@ pub(crate) fn remove_plainly<N: Naming, R: Wait>(
     Ok(count)
 }
 
-/// Closes the gate once the node is doomed. The removal waits for that, though nobody is inside.
+/// Closes the gate once the node is doomed. The removal must wait for that, although nobody is inside.
 pub(crate) fn close_once_doomed<N: Naming, R: Abort + Wait>(
     rt: &R,
     tree: &SharedTree<N>,

@@ -1,4 +1,4 @@
-//! Passes that go by their guard, in one thread.
+//! Passes that are used through their guard, in one thread.
 ghost use Rattle.std.specs.Prelude.{◌≡◌};
 ghost use Rattle.kf_core.specs.declared.caller.Phase.TheVariants as phase_of;
 
@@ -11,7 +11,7 @@ use std::alloc::Global;
 use std::process::Abort;
 use std::sync::Wait;
 
-/// Goes in by this pass, which must be let in.
+/// Goes in by this pass, which must get in.
 pub(crate) fn inside<R: Abort>(rt: &R, passes: &mut HotPasses, pass: HotPass) -> HotCall
     ensures seat { result.call.seat ≡ pass.pass.seat }
     ensures running { result.call.phase ≡ phase_of.Running }
@@ -35,7 +35,7 @@ pub(crate) fn refused<R: Abort>(rt: &R, passes: &mut HotPasses, pass: HotPass) -
     }
 }
 
-/// Breaks the call's protection and restores it, and looks at the phase before and after each.
+/// Breaks the call's protection and restores it, and checks the phase before and after each step.
 fn broken_and_restored<R: Abort>(rt: &R, call: &mut HotCall)
     requires running { call.old.call.phase ≡ phase_of.Running }
     ensures seat { call.new.call.seat ≡ call.old.call.seat }
@@ -48,8 +48,8 @@ fn broken_and_restored<R: Abort>(rt: &R, call: &mut HotCall)
     assert!(rt; call.phase() == Phase::Restored);
 }
 
-/// A pass goes in and out, and is refused once its gate was closed, also when the gate is open for another
-/// node. Then it is made into a pass of that node.
+/// A pass goes in and out, and is refused once its gate was closed, even when the gate is open for another
+/// node. Then it is turned into a pass for that node.
 pub(crate) fn guarded<N: Naming, R: Abort + Wait>(rt: &R, alloc: Global, new: NewTree)
     requires { new.master.table ≡ N.table }
 {

@@ -1,4 +1,4 @@
-//! The tests of `kf_registry`.
+//! Tests of `kf_registry`.
 mod counted;
 mod crowd;
 mod hot;

@@ -1,4 +1,4 @@
-//! Gates and passes by one thread, and removals of hot nodes among threads.
+//! Gates and passes in one thread, and removals of hot nodes while threads call them.
 ghost use Rattle.std.specs.Prelude.{◌≡◌};
 
 use crate::gates::{another, broken, gate, lanes, openings};
@@ -27,7 +27,7 @@ pub(crate) fn made<R: Abort>(rt: &R, alloc: Global) -> NewTree {
     }
 }
 
-/// Node after node under one gate, each called by two and removed.
+/// A hundred nodes behind one gate, one after the other. Each is called by two threads and removed.
 fn histories<N: Naming + Send + Sync, R: Threads + Abort + Wait + Sync>(
     rt: &R,
     alloc: Global,
@@ -58,7 +58,7 @@ fn histories<N: Naming + Send + Sync, R: Threads + Abort + Wait + Sync>(
     assert!(rt; counts.wrong.load(Ordering::SeqCst) == 0);
 }
 
-/// One stays inside until the node is doomed, and the removal waits for it.
+/// One caller stays inside until the node is doomed, and the removal waits for it.
 fn in_use<N: Naming + Send + Sync, R: Threads + Abort + Wait + Sync>(
     rt: &R,
     alloc: Global,
@@ -93,7 +93,7 @@ fn removals<N: Naming + Send + Sync, R: Threads + Abort + Wait + Sync>(
     in_use(rt, alloc, &tree);
 }
 
-/// A removal by its key waits until the gate is closed.
+/// A removal that does not know of the gate waits until the gate is closed.
 fn unknown<N: Naming + Send + Sync, R: Threads + Abort + Wait + Sync>(
     rt: &R,
     alloc: Global,

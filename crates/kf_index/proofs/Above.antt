@@ -1,4 +1,4 @@
--- The names above a bound, least first, among pairs whose names rise.
+-- The names above a bound, the least one first, among pairs in rising order of their names.
 use Rattle.std.proofs.Common.{◌≡◌, ◌⊎◌, ℕ, ◌+◌, ◌<◌, ◌≤◌, zero, suc, Option, List, [], length, get_or, drop, Some, None, IsSome, sym, ap, ◌∙◌, subst, arith, inl, inr}
 use Rattle.std.proofs.lemmas.Bool.{cases_order, cases_lt}
 use Rattle.std.specs.FinMap.{get-from_entries}
@@ -11,11 +11,11 @@ use Rattle.kf_index.specs.Pairs.{Pairs, IsRising, IsPlaceOf, IsGapFor, IsFirstAb
 use Rattle.kf_index.proofs.Searched.{not_before_itself, before_more}
 use Rattle.kf_index.proofs.Found.{entries_of, find_none, found_place, get_at_place, differs_unless}
 
--- every name is above no bound
+-- if there is no bound, every name is above it
 pub first_of_all : (pairs : Pairs) → IsFirstAbove pairs None 0
 first_of_all pairs = record { within = omega arith; not_above = λ i d low. absurd (omega (arith, low)); above = λ i d low high. tt }
 
--- the first above a name that has a gap
+-- the first pair above a name that has a gap is the one at the gap
 pub first_from_gap : (pairs : Pairs) (name : List ℕ) (at : ℕ) → IsGapFor pairs name at → IsFirstAbove pairs (Some name) at
 first_from_gap pairs name at gap = record {
   within = gap.within;
@@ -23,7 +23,7 @@ first_from_gap pairs name at gap = record {
   above = gap.higher;
 }
 
--- the first above a name that has a place
+-- the first pair above a name that has a place is the one after that place
 pub first_past_place : (pairs : Pairs) → IsRising pairs → (name : List ℕ) (at : ℕ) → IsPlaceOf pairs name at → IsFirstAbove pairs (Some name) (at + 1)
 first_past_place pairs rising name at place = record {
   within = omega (arith, place.within);
@@ -36,7 +36,7 @@ first_past_place pairs rising name at place = record {
 }
 
 module _ (pairs : Pairs) (rising : IsRising pairs) (bound : Option (List ℕ)) (at : ℕ) (first : IsFirstAbove pairs bound at) where
-  -- a name that is found above the bound is at this place or further on
+  -- a name that is found, and is above the bound, is at this place or a later one
   later_place : (d : List ℕ × Key) (other : List ℕ) (i : ℕ) → IsPlaceOf pairs other i → IsAbove bound other → (other ≡ (get_or pairs at d).0) ⊎ IsBefore (get_or pairs at d).0 other
   later_place d other i place above = elim (cases_order i at) [
     | inl is ↦ inl (sym (place.named d) ∙ ap (λ (k : ℕ). (get_or pairs k d).0) is)
@@ -69,7 +69,7 @@ module _ (pairs : Pairs) (rising : IsRising pairs) where
   unfolding AreAbove
   past_the_last bound at past first = subst (AreAbove (entries_of pairs) bound) (sym (drop_all at pairs past)) (none_above pairs rising bound at first past)
 
-  -- all from the first above the bound on, and at most this many of these are left
+  -- the pairs from the first one above the bound on are all that are above it; at most this many are left
   pub all_above : (left : ℕ) (bound : Option (List ℕ)) (at : ℕ) → length pairs ≤ at + left → IsFirstAbove pairs bound at → AreAbove (entries_of pairs) bound (drop at pairs)
   unfolding AreAbove
   all_above zero bound at few first = past_the_last bound at (omega arith) first

@@ -1,4 +1,4 @@
--- Which part of an index a name belongs into: lower names stand before it, and higher ones after it.
+-- Which part of an index a name belongs in: lower names come before that part, and higher ones after it.
 use Rattle.std.proofs.Common.{◌≡◌, ◌≢◌, ◌⊎◌, ℕ, zero, suc, ◌+◌, ◌-◌, ◌<◌, List, [], ◌∷◌, ◌++◌, Option, Some, None, length, get_or, take, drop, sym, ap, ◌∙◌, refl, subst, arith, inl, inr, append_assoc}
 use Rattle.std.specs.List.{All}
 use Rattle.std.specs.Prelude.{IfSome, IfNone}
@@ -25,7 +25,7 @@ up_to name other unless = by_order (slice_cmp nat_cmp name other) refl
     by_order Equal is = inl (sym (same_name name other is))
     by_order Greater is = inr (turned name other is)
 
--- what stands before a part that begins at or below the name is lower
+-- the names before a part that begins at or below the name are lower
 lower_before : (before part after : Pairs) (name : List ℕ) → IsRising (before ++ (part ++ after)) → 0 < length part
     → ¬ IsBefore name (first_name part) → All (λ entry. IsBefore entry.0 name) before
 lower_before before part after name rising some up i d low =
@@ -43,7 +43,7 @@ first_of_some : (part rest : Pairs) → part ≢ [] → first_name (part ++ rest
 first_of_some [] rest some = absurd (some refl)
 first_of_some (e ∷ part) rest some = refl
 
--- what stands in chunks of which the first begins above the name is higher
+-- if the first of some chunks begins above the name, all names in these chunks are higher
 higher_in : (chunks : List Pairs) (name : List ℕ) → IsRising (joined chunks) → HaveSome chunks
     → (0 < length chunks → IsBefore name (first_name (get_or chunks 0 []))) → All (λ entry. IsBefore name entry.0) (joined chunks)
 higher_in [] name rising some over i d low = absurd (omega (arith, low))
@@ -68,7 +68,7 @@ part_first first chunks name rising some reach = record {
   higher = higher_in chunks name (rising_after first (joined chunks) rising) some reach.next;
 }
 
--- the later chunk with this number, and entries before all of them
+-- the later chunk with this number, with some entries before all later chunks
 module _ (front : Pairs) (chunks : List Pairs) (k : ℕ) (name : List ℕ) (rising : IsRising (front ++ joined chunks)) (some : HaveSome chunks)
     (reach : ReachTo chunks name (k + 1)) where
   within : k < length chunks
@@ -96,7 +96,7 @@ module _ (front : Pairs) (chunks : List Pairs) (k : ℕ) (name : List ℕ) (risi
   pub lower_front : All (λ entry. IsBefore entry.0 name) front
   lower_front i d low = rw (← get_or_append_left front (joined (take k chunks)) d i low) (lower_parts i d (omega (arith, low, length-append front (joined (take k chunks)))))
 
--- the same by the number of chunks up to the name, and the chunk that was read there
+-- the same from the number of chunks up to the name, and the chunk that was read there
 pub part_counted : (first : Pairs) (chunks : List Pairs) (count : ℕ) (name : List ℕ) (chunk : Pairs) → IsRising (joined (first ∷ chunks)) → HaveSome chunks
     → ¬ (count ≡ 0) → ReachTo chunks name count → chunk ≡ get_or chunks (count - 1) chunk → IsPartFor (joined (first ∷ chunks)) name chunk (joined (drop count chunks))
 part_counted first chunks zero name chunk rising some more reach is = absurd (more refl)
@@ -107,12 +107,12 @@ part_counted first chunks (suc k) name chunk rising some more reach is =
     subst (λ c. IsPartFor (joined (first ∷ chunks)) name c (joined (drop (suc k) chunks))) (sym (get_or_read chunks k chunk within read []))
     (part_later first chunks k name rising some here)
 
--- the lowest name of a chunk, as it was read
+-- the lowest name of a chunk that was read
 pub named : (chunks : List Pairs) (k : ℕ) (chunk part : Pairs) (bytes : List ℕ) → k < length chunks → chunk ≡ get_or chunks k chunk → part ≡ chunk
     → (get_or part 0 no_entry).0 ≡ bytes → first_name (get_or chunks k []) ≡ bytes
 named chunks k chunk part bytes within is same read = ap first_name (sym (get_or_read chunks k chunk within is []) ∙ sym same) ∙ read
 
--- what is so of the part is so of all
+-- what carries over between the part and the whole
 module _ (all : Pairs) (name : List ℕ) (part after : Pairs) (belongs : IsPartFor all name part after) where
   pub rising_of : IsRising all → IsRising part
   rising_of rising = rising_part belongs.before part after (subst IsRising belongs.parts rising)

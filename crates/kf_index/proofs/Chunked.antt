@@ -1,4 +1,4 @@
--- What was found, put or taken in a chunk was so in the index.
+-- What was found, put or removed in a chunk was found, put or removed in the index.
 use Rattle.std.proofs.Common.{◌≡◌, ◌≢◌, ℕ, suc, ◌+◌, ◌<◌, ◌≤◌, List, [], ◌∷◌, ◌++◌, Option, Some, None, length, get_or, take, drop, set, sym, ap, ◌∙◌, subst, arith}
 use Rattle.std.specs.List.{All}
 use Rattle.std.specs.Prelude.{IfSome, IfNone}
@@ -20,7 +20,7 @@ none_lower name i d low = absurd (omega (arith, low))
 none_higher : (name : List ℕ) → All {X = List ℕ × Key} (λ entry. IsBefore name entry.0) []
 none_higher name i d low = absurd (omega (arith, low))
 
--- a put entry is there
+-- after an entry is put, there is an entry
 pub some_put : (old new : Pairs) (name : List ℕ) (key : Key) → IsPut old name key new → new ≢ []
 some_put old new name key put none =
     absurd (omega (arith, length-insert old put.at (name, key) put.gap.within, ap (λ (l : Pairs). length l) (sym put.put ∙ none)))
@@ -91,7 +91,7 @@ module _ (chunks : List Pairs) (k : ℕ) (name : List ℕ) (rising : IsRising (j
   pub some_set : (key : Key) (more : Pairs) → IsPut (get_or chunks k []) name key more → HaveSome (set chunks k more)
   some_set key more put = All-set (λ (l : Pairs). l ≢ []) chunks k more (some_put _ more name key put) some
 
--- what is so of the later chunks is so with entries before them
+-- what holds for the later chunks also holds with some entries before them
 module _ (front all : Pairs) (name : List ℕ) where
   pub taken_behind : (left : Pairs) (result : Option Key) → IfSome result (λ key. IsTakenOut all name key left)
       → IfSome result (λ key. IsTakenOut (front ++ all) name key (front ++ left))

@@ -1,4 +1,4 @@
--- Byte order by the lengths of what is left, and by the numbers that as many bytes are.
+-- Byte order, by the lengths of what is left, and by the numbers that equally many bytes make.
 use Rattle.std.proofs.Common.{◌≡◌, ◌≢◌, ℕ, zero, suc, ◌+◌, ◌*◌, ◌<◌, List, [], ◌∷◌, ◌++◌, length, drop, take, min, get_or, ap, sym, refl, subst, ◌∙◌, arith, inl, inr, ◌≤◌}
 use Rattle.std.specs.declared.cmp.Ordering.{Ordering}
 use Rattle.std.specs.declared.cmp.Ordering.TheVariants.{Less, Equal, Greater}
@@ -28,7 +28,7 @@ lengths_tell (x ∷ xs) [] (suc n) is = absurd (omega (arith, is))
 lengths_tell (x ∷ xs) (y ∷ ys) zero is = absurd (omega (arith, is))
 lengths_tell (x ∷ xs) (y ∷ ys) (suc n) is = lengths_tell xs ys n (omega (arith, is)) ∙ one_more (length xs) (length ys)
 
--- the number that a number becomes by bytes that are written behind it
+-- what a number becomes when bytes are appended to it
 pub number : ℕ → List ℕ → ℕ
 number a [] = a
 number a (x ∷ xs) = number (a * 256 + x) xs
@@ -57,7 +57,7 @@ rises a b (x ∷ xs) (y ∷ ys) same small less =
     let low : x < 256 = small 0 in
     rises (a * 256 + x) (b * 256 + y) xs ys (omega (arith, same)) (later_bytes x xs small) (omega (arith, low, less))
 
--- as many bytes stand as their numbers do, whatever follows them
+-- lists of equally many bytes, whose numbers differ, are in the order of the numbers, whatever follows them
 module _ (rs ss : List ℕ) where
   abbrev then_rest : List ℕ → List ℕ → Ordering → Ordering
   then_rest xs ys r = ordering_then r (slice_cmp nat_cmp (xs ++ rs) (ys ++ ss))
@@ -134,7 +134,7 @@ module _ (a b : List ℕ) (at : ℕ) (same : take at a ≡ take at b) where
       ap (λ l. slice_cmp nat_cmp l b) (sym (take-append-drop at a)) ∙ ap (slice_cmp nat_cmp (take at a ++ drop at a)) (sym (take-append-drop at b))
       ∙ ap (λ l. slice_cmp nat_cmp (take at a ++ drop at a) (l ++ drop at b)) (sym same) ∙ after_same (take at a) (drop at a) (drop at b)
 
-  -- the same to the end of one of them: the lengths decide
+  -- if the texts are the same to the end of one of them, the lengths decide
   pub ends_tell : at ≡ min (length a) (length b) → slice_cmp nat_cmp a b ≡ nat_cmp (length a) (length b)
   ends_tell is = from_there ∙ lengths_tell a b at is
 

@@ -1,4 +1,4 @@
--- What an insert at a gap, or a removal at a place, makes of pairs whose names rise.
+-- What an insert at a gap, or a removal at a place, does to pairs in rising order of their names.
 use Rattle.std.proofs.Common.{◌≡◌, ℕ, zero, suc, ◌+◌, ◌-◌, ◌<◌, true, false, cond, Bool, List, [], ◌∷◌, length, get_or, Some, None, sym, ap, ◌∙◌, refl, subst, arith, inl, inr}
 use Rattle.std.proofs.lemmas.Bool.{cases_order}
 use mathlib.Core.Bool.{false≢true}
@@ -15,13 +15,13 @@ use Rattle.kf_core.specs.Names.{IsBefore}
 use Rattle.kf_index.specs.Pairs.{Pairs, IsRising, IsPlaceOf, IsGapFor}
 use Rattle.kf_index.proofs.Found.{is_same, find_name, entries_of, same_itself, differs_below, name_of_same, NoneBefore, none_in_tail, find_none, none_before_gap, none_before_place, get_in_gap}
 
--- two tests that don't both pass may be asked in either order
+-- two tests that cannot both pass can be made in either order
 either_first : {A : Type 0} (a b : Bool) (x y z : A) → (a ≡ true → b ≡ true → ⊥) → cond a x (cond b y z) ≡ cond b y (cond a x z)
 either_first true true x y z apart = absurd (apart refl refl)
 either_first true false x y z apart = refl
 either_first false b x y z apart = refl
 
--- a name is not both of two that differ
+-- a name cannot be the same as two names that differ
 apart : (name a b : List ℕ) → is_same a b ≡ false → is_same name b ≡ true → is_same name a ≡ true → ⊥
 apart name a b differ is_b is_a =
     let same : a ≡ b = sym (name_of_same name a is_a) ∙ name_of_same name b is_b in
@@ -35,14 +35,14 @@ find-insert (e ∷ pairs) name key (suc at) none q =
     rw (find-insert pairs name key at (none_in_tail e pairs name at none) q)
     (either_first (is_same q e.0) (is_same q name) (Some e.1) (Some key) (find_name q pairs) (apart q name e.0 (none 0 e (omega arith))))
 
--- past the place of a name, the name doesn't come again
+-- after the place of a name, the name does not come again
 none_later : (e : List ℕ × Key) (pairs : Pairs) (name : List ℕ) → IsRising (e ∷ pairs) → e.0 ≡ name → NoneBefore pairs name (length pairs)
 none_later e pairs name rising is i d below = rw (← is) (differs_below e.0 (get_or pairs i d).0 (rising 0 (suc i) d (omega arith) (omega (arith, below))))
 
 rising_tail : (e : List ℕ × Key) (pairs : Pairs) → IsRising (e ∷ pairs) → IsRising pairs
 rising_tail e pairs rising i j d low high = rising (suc i) (suc j) d (omega arith) (omega (arith, high))
 
--- the map has as many names as the pairs, since none of them comes twice
+-- the map has as many names as there are pairs, since no name comes twice
 pub len_of_rising : (pairs : Pairs) → IsRising pairs → map_of.len (entries_of pairs) ≡ length pairs
 len_of_rising [] rising = len-empty _ _
 len_of_rising (e ∷ pairs) rising =
@@ -88,7 +88,7 @@ module _ (pairs : Pairs) (rising : IsRising pairs) (name : List ℕ) (at : ℕ) 
   rising_remove = all_pairs_remove (λ a b. IsBefore a.0 b.0) pairs at place.within rising
 
 module _ (pairs : Pairs) (name : List ℕ) (at : ℕ) (gap : IsGapFor pairs name at) (key : Key) where
-  -- where a pair of the new list stood
+  -- the place that each pair of the new list had before
   below : (i : ℕ) (d : List ℕ × Key) → i < at → get_or (insert pairs at (name, key)) i d ≡ get_or pairs i d
   below i d low = get_or-insert_below pairs at (name, key) d i low gap.within
 
@@ -111,7 +111,7 @@ module _ (pairs : Pairs) (name : List ℕ) (at : ℕ) (gap : IsGapFor pairs name
         | inr (inr over) ↦ rw (above i d over, above j d (omega arith)) (rising (i - 1) (j - 1) d (omega arith) (omega arith))
       ]
 
--- a name that isn't found is removed by doing nothing
+-- removing a name that is not found changes nothing
 pub remove_absent : (pairs : Pairs) (name : List ℕ) (at : ℕ) → IsGapFor pairs name at → entries_of pairs ≡ map_of.remove (entries_of pairs) name
 remove_absent pairs name at gap = same_map nat_list_cmp_total names_agree _ _ (λ q. sym (get-remove nat_list_cmp_total _ name q ∙ unchanged q))
   where

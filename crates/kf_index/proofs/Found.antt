@@ -1,4 +1,4 @@
--- What a name leads to among pairs.
+-- What a name leads to in a list of pairs.
 use Rattle.std.proofs.Common.{◌≡◌, ℕ, zero, suc, ◌<◌, true, false, cond, Bool, Option, List, [], ◌∷◌, length, get_or, Some, None, IsSome, sym, ap, ◌∙◌, refl, arith, inl, inr}
 use Rattle.std.proofs.lemmas.Bool.{cases_lt}
 use mathlib.Core.Bool.{false≢true}
@@ -20,7 +20,7 @@ is_same = eq_by_cmp (slice_cmp nat_cmp)
 abbrev pub find_name : List ℕ → Pairs → Option Key
 find_name = find (slice_cmp nat_cmp)
 
--- the map that the pairs are
+-- the pairs as a map
 abbrev pub entries_of : Pairs → Entries
 entries_of pairs = from_entries pairs
 
@@ -74,7 +74,7 @@ found_place (e ∷ pairs) name found =
     ] refl found
 
 module _ (pairs : Pairs) (rising : IsRising pairs) (name : List ℕ) (at : ℕ) (place : IsPlaceOf pairs name at) where
-  -- names before the place are lower
+  -- no pair before the place has the name, since the names there are lower
   pub none_before_place : NoneBefore pairs name at
   none_before_place i d below = rw (← place.named d) (differs_above (get_or pairs at d).0 (get_or pairs i d).0 (rising i at d below place.within))
 

@@ -1,4 +1,4 @@
--- A part among all: what is found, put or taken there is so among all.
+-- A part of some pairs: what is found, put or removed in the part is found, put or removed in the whole.
 use Rattle.std.proofs.Common.{◌≡◌, ℕ, ◌+◌, ◌-◌, ◌<◌, ◌≤◌, List, ◌++◌, length, get_or, drop, sym, ap, ◌∙◌, refl, arith, inl, inr, Some}
 use Rattle.std.proofs.lemmas.Bool.{cases_lt}
 use Rattle.std.specs.List.{insert, remove, All}
@@ -13,11 +13,11 @@ use Rattle.kf_index.specs.Chunks.{HasKey, LacksName, IsPut, WasRefused, IsTakenO
 use Rattle.kf_index.proofs.Searched.{not_before_itself, before_more}
 
 module _ (before part after : Pairs) where
-  -- an entry of the part, among all
+  -- an entry of the part, by its place in the whole
   pub here : (i : ℕ) (d : List ℕ × Key) → i < length part → get_or (before ++ (part ++ after)) (length before + i) d ≡ get_or part i d
   here i d within = get_or-append-add before (part ++ after) i d ∙ get_or_append_left part after d i within
 
-  -- an entry after the part, among all
+  -- an entry after the part, by its place in the whole
   past : (i : ℕ) (d : List ℕ × Key) → length before + length part ≤ i → get_or (before ++ (part ++ after)) i d ≡ get_or after (i - length before - length part) d
   past i d high = get_or-append_right before (part ++ after) (length before) i d refl (omega (arith, high))
       ∙ get_or-append_right part after (length part) (i - length before) d refl (omega (arith, high))
@@ -72,7 +72,7 @@ module _ (before part after : Pairs) where
     taken = ap (λ l. before ++ (l ++ after)) out.taken ∙ sym (removed out.at out.place.within);
   }
 
-  -- names before the part are lower, and names after it higher
+  -- the names before the part are lower, and those after it are higher
   module _ (name : List ℕ) (lower : All (λ entry. IsBefore entry.0 name) before) (higher : All (λ entry. IsBefore name entry.0) after) where
     gap_inside : (at : ℕ) → IsGapFor part name at → IsGapFor (before ++ (part ++ after)) name (length before + at)
     gap_inside at gap = record {

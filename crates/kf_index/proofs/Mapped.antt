@@ -1,4 +1,4 @@
--- What a search, an insert or a removal says of pairs whose names rise, said of the map that they are.
+-- What a search, an insert or a removal does with pairs in rising order, restated for the map that they make.
 use Rattle.std.proofs.Common.{◌≡◌, ℕ, List, Option, Some, None, Result, Ok, Err, length, drop, sym, ap, ◌∙◌, subst, arith, inl, inr}
 use Rattle.std.specs.Prelude.{IfSome, IfNone, IfErr, OnOk, OnErr, if◌then◌else◌}
 use Rattle.std.specs.FinMap as map_of

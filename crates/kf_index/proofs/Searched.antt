@@ -1,4 +1,4 @@
--- What a binary search finds among pairs whose names rise.
+-- What a binary search finds among pairs in rising order of their names.
 use Rattle.std.proofs.Common.{◌≡◌, ℕ, ◌+◌, ◌<◌, ◌≤◌, List, length, get_or, ap, sym, subst, ◌∙◌, arith, inl, inr}
 use Rattle.std.specs.declared.cmp.Ordering.TheVariants.{Equal, Greater}
 use Rattle.std.specs.Ordering.{nat_cmp, ordering_reverse}
@@ -11,11 +11,11 @@ use Rattle.kf_core.specs.declared.key.Key.{Key}
 use Rattle.kf_core.specs.Names.{IsBefore}
 use Rattle.kf_index.specs.Pairs.{Pairs, IsRising, IsPlaceOf}
 
--- the other way round
+-- if a is greater than b, then b is before a
 pub turned : (a b : List ℕ) → slice_cmp nat_cmp a b ≡ Greater → IsBefore b a
 turned a b e = nat_list_cmp_total.antisymm b a ∙ ap ordering_reverse e
 
--- what is not above stands no later
+-- if a is not greater than b, then b is not before a
 pub not_turned : (a b : List ℕ) → ¬ (slice_cmp nat_cmp a b ≡ Greater) → ¬ IsBefore b a
 not_turned a b unless e = unless (nat_list_cmp_total.antisymm a b ∙ ap ordering_reverse e)
 
@@ -29,7 +29,7 @@ pub before_more : (a b c : List ℕ) → IsBefore a b → IsBefore b c → IsBef
 before_more = nat_list_cmp_total.trans
 
 module _ (pairs : Pairs) (rising : IsRising pairs) (name : List ℕ) (at : ℕ) (e : List ℕ × Key) (within : at < length pairs) where
-  -- what stands at this place, whatever is asked for past the end
+  -- the name at this place, whatever default is read past the end
   here : (d : List ℕ × Key) → (get_or pairs at d).0 ≡ (get_or pairs at e).0
   here d = ap (λ (pair : List ℕ × Key). pair.0) (get_or_default pairs at d e within)
 

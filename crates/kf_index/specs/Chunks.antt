@@ -20,20 +20,21 @@ HaveSome chunks = All (λ chunk. chunk ≢ []) chunks
 abbrev pub first_name : Pairs → List ℕ
 first_name chunk = (slice_index_or chunk 0 no_entry).0
 
--- the last of this many chunks begins at or below the name, and the next one above it
+-- the last of the first `count` chunks begins at or below the name, and the next chunk begins above it
 pub record ReachTo (chunks : List Pairs) (name : List ℕ) (count : ℕ) : Type 0 where
   pub within : count ≤ length chunks
   pub last : 0 < count → ¬ IsBefore name (first_name (slice_index_or chunks (count - 1) []))
   pub next : count < length chunks → IsBefore name (first_name (slice_index_or chunks count []))
 
--- the name belongs into this part of all: lower names stand before it, and higher ones after it
+-- the name belongs to this part of all pairs: the names before the part are lower, and those after it are
+-- higher
 pub record IsPartFor (all : Pairs) (name : List ℕ) (part after : Pairs) : Type 0 where
   pub before : Pairs
   pub parts : all ≡ before ++ (part ++ after)
   pub lower : All (λ entry. IsBefore entry.0 name) before
   pub higher : All (λ entry. IsBefore name entry.0) after
 
--- the pairs have the name, and this key with it
+-- the pairs have the name, and this is its key
 pub record HasKey (pairs : Pairs) (name : List ℕ) (key : Key) : Type 0 where
   pub at : ℕ
   pub place : IsPlaceOf pairs name at
@@ -44,13 +45,13 @@ pub record LacksName (pairs : Pairs) (name : List ℕ) : Type 0 where
   pub at : ℕ
   pub gap : IsGapFor pairs name at
 
--- an entry was put to the gap for its name
+-- an entry was put into the gap for its name
 pub record IsPut (old : Pairs) (name : List ℕ) (key : Key) (new : Pairs) : Type 0 where
   pub at : ℕ
   pub gap : IsGapFor old name at
   pub put : new ≡ insert old at (name, key)
 
--- why an entry was not put among the pairs: its name is there, or else there was no memory
+-- why an entry was not put among the pairs: its name is there; or it is not, and there was no memory
 abbrev pub WasRefused : Pairs → List ℕ → Refusal → Type 0
 WasRefused pairs name refusal = ((refusal ≡ Exists) × ((at : ℕ) × IsPlaceOf pairs name at))
     ⊎ ((refusal ≡ NoMemory) × LacksName pairs name)

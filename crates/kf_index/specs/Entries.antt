@@ -37,8 +37,8 @@ pub record IsLeastAbove (entries : Entries) (bound : Option (List ℕ)) (name : 
 abbrev pub NoneAbove : Entries → Option (List ℕ) → Type 0
 NoneAbove entries bound = (name : List ℕ) → IsAbove bound name → map_of.get entries name ≡ None
 
--- the entries above the bound, one after another: each has the least name above the one before it, the first
--- above the bound, and no name is above the last
+-- the entries above the bound, one after another: the first has the least name above the bound, each later
+-- one the least name above the one before it, and no name is above the last
 unfoldable pub AreAbove : Entries → Option (List ℕ) → List (List ℕ × Key) → Type 0
 AreAbove entries bound [] = NoneAbove entries bound
 AreAbove entries bound (entry ∷ later) =

@@ -8,7 +8,7 @@ use Rattle.kf_index.specs.Entries.{IsAbove}
 abbrev pub Pairs : Type 0
 Pairs = List (List ℕ × Key)
 
--- each name stands before all later ones
+-- each name comes before all later ones in byte order
 abbrev pub IsRising : Pairs → Type 0
 IsRising pairs = AllPairs (λ a b. IsBefore a.0 b.0) pairs
 
@@ -17,7 +17,7 @@ pub record IsPlaceOf (pairs : Pairs) (name : List ℕ) (at : ℕ) : Type 0 where
   pub within : at < length pairs
   pub named : (d : List ℕ × Key) → (slice_index_or pairs at d).0 ≡ name
 
--- the name would go to this place: lower names before it, and higher ones from it on
+-- the name would go to this place: the names before it are lower, and those from it on are higher
 pub record IsGapFor (pairs : Pairs) (name : List ℕ) (at : ℕ) : Type 0 where
   pub within : at ≤ length pairs
   pub lower : (i : ℕ) (d : List ℕ × Key) → i < at → IsBefore (slice_index_or pairs i d).0 name

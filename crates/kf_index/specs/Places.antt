@@ -1,4 +1,4 @@
--- Entries at places that each one keeps, and their places in an order.
+-- Entries at places that they keep, and an order of these places.
 use Rattle.std.specs.Prelude.{◌≡◌, ◌≢◌, ℕ, ◌+◌, ◌*◌, ◌<◌, ◌≤◌, List, [], length, map, take, slice_index_or, unwrap_or, Option, None, IsSome, All, AllPairs}
 use Rattle.kf_core.specs.declared.key.Key.{Key}
 use Rattle.kf_index.specs.Pairs.{Pairs}
@@ -19,23 +19,24 @@ entry_at entries place = unwrap_or (slice_index_or entries place None) no_entry
 abbrev pub pairs_at : Places → List ℕ → Pairs
 pairs_at entries order = map (entry_at entries) order
 
--- an entry stands at this place
+-- there is an entry at this place
 abbrev pub IsTaken : Places → ℕ → Type 0
 IsTaken entries place = IsSome (slice_index_or entries place None)
 
--- an entry stands at each of these places
+-- there is an entry at each of these places
 abbrev pub AreTaken : Places → List ℕ → Type 0
 AreTaken entries order = All (IsTaken entries) order
 
--- the order has each place of the entries, none of them twice, and entries stand at the first `len` of it
+-- the order has each place of the entries, none of them twice, and there are entries at its first `len`
+-- places
 pub record AreInOrder (entries : Places) (order : List ℕ) (len : ℕ) : Type 0 where
   pub within : All (λ place. place < length entries) order
   pub apart : AllPairs (λ a b. a ≢ b) order
-  -- so each place stands in the order once
+  -- so each place is in the order once
   pub as_many : length entries ≡ length order
   pub few : len ≤ length order
   pub taken : AreTaken entries (take len order)
 
--- this many entries keep at most this memory: room for four times as many, and three more
+-- `len` entries may keep memory for `capacity`: at most four times as many, and three more
 abbrev pub IsFitting : ℕ → ℕ → Type 0
 IsFitting len capacity = capacity ≤ 4 * len + 3

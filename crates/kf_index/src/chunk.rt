@@ -1,4 +1,4 @@
-//! One chunk of an index: entries one after another, each at a place that it keeps.
+//! One chunk of an index: entries, one after another, each at a place that it keeps.
 
 ghost use Rattle.std.specs.Prelude.{◌≡◌, ◌≢◌, ◌<◌, ◌≤◌, ◌^◌, ◌/◌, ◌++◌, ℕ, List, [], length, insert, remove, slice_index_or, OnOk, OnErr, IfOk};
 ghost use Rattle.kf_core.specs.declared.key.Key.{Key};
@@ -10,18 +10,18 @@ use kf_core::Key;
 use std::alloc::{AllocError, Global};
 use std::marker::Model;
 
-/// Entries one after another. Contracts see the list of them. The length comes first, so that what a search
-/// looks at lies in one line of memory.
+/// Entries, one after another. In contracts it is the list of these entries. The length comes first, so that
+/// what a search reads is in one cache line.
 #[derive(Drop)]
 pub(crate) struct Chunk {
     /// How many entries there are.
     len: usize,
-    /// Places: first those of the entries, in their order, then free ones. A place takes four bytes, so that
-    /// less moves.
+    /// Places: first those of the entries, in the order of the entries, then free ones. A place takes only
+    /// four bytes, so that less memory moves.
     order: Vec<u32>,
     /// Each entry at a place that it keeps; None if a place is free.
     entries: Vec<Option<(Name, Key)>>,
-    /// Whether there was no memory for a smaller copy when one was last wanted, so that all is kept.
+    /// Whether the last removal or split had no memory for a smaller copy, so that all memory is kept.
     kept_large: bool,
 }
 
@@ -42,7 +42,7 @@ impl Model for Chunk {
 }
 
 impl Chunk {
-    /// No entries. It takes no memory yet.
+    /// A chunk without entries. This allocates nothing yet.
     pub(crate) fn new(alloc: Global) -> Chunk
         ensures empty { result ≡ [] }
     {
@@ -62,7 +62,7 @@ impl Chunk {
         Part::new(&self.entries, &self.order[..self.len])
     }
 
-    /// For how many entries there is memory.
+    /// How many entries there is memory for.
     pub(crate) fn room(&self) -> usize
         ensures enough { length self.now ≤ result }
         ensures none { length self.now ≡ 0 → result ≡ 0 }
@@ -70,7 +70,8 @@ impl Chunk {
         self.entries.capacity().max(self.order.capacity())
     }
 
-    /// Adds an entry, and moves those from there on up. It takes memory if no place is free.
+    /// Adds an entry at this position. The entries from there on move up by one position. It allocates only
+    /// if no place is free.
     pub(crate) fn insert(&mut self, at: usize, entry: (Name, Key)) -> Result<(), AllocError>
         requires within { at ≤ length self.old }
         requires few { length self.old < 2 ^ 32 }
@@ -86,9 +87,9 @@ impl Chunk {
         Ok(())
     }
 
-    /// Takes an entry out, and moves those after it down. With the last entry all memory is given back. Where
-    /// there is room for four times as many entries as are left, and more, they move to memory for some twice
-    /// as many, or stay if there is none.
+    /// Takes an entry out. The entries after it move down by one position. With the last entry, all memory is
+    /// freed. If there is room for more than four times the entries that are left, and three more, they move
+    /// to memory for about twice as many, or stay if that cannot be allocated.
     pub(crate) fn remove(&mut self, at: usize) -> (Name, Key)
         requires within { at < length self.old }
         ensures value { result ≡ slice_index_or self.old at result }

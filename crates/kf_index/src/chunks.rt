@@ -1,4 +1,5 @@
-//! The entries of an index in chunks: when one comes or goes, only places of its chunk move.
+//! The entries of an index in chunks: when an entry is added or removed, usually only places of its chunk
+//! move.
 
 ghost use Rattle.std.specs.Prelude.{◌≡◌, ◌≢◌, ◌∷◌, ◌<◌, ◌≤◌, ◌+◌, ◌*◌, ◌^◌, ℕ, [], length, max, drop, slice_index_or, vec_capacity, IfErr, IfNone, IfSome, OnErr, OnOk, OnSome};
 ghost use Rattle.std.specs.Option.{option_copied};
@@ -15,14 +16,14 @@ use std::alloc::{AllocError, Global};
 use std::cmp::Ordering;
 use std::marker::Model;
 
-/// Entries in chunks. Contracts see the list of them all.
+/// Entries in chunks. In contracts it is the list of all entries.
 #[derive(Drop)]
 pub(crate) struct Chunks {
     /// How many entries there are.
     len: usize,
-    /// The entries with the lowest names: in most directories all of them.
+    /// The entries with the lowest names. In most directories these are all entries.
     first: Chunk,
-    /// The others, in chunks of which none is empty.
+    /// The other entries, in chunks of which none is empty.
     later: Vec<Chunk>,
 }
 
@@ -41,8 +42,8 @@ impl Model for Chunks {
         × (all.first ≡ [] → all.later.items ≡ []))) };
 }
 
-/// So many entries make a chunk full, and it is split in two. Its memory grows to 4, 12, 28 .. 508 entries,
-/// so none is left over.
+/// A chunk with this many entries is full, and is split in two if there is memory for that. The memory of a
+/// chunk grows to 4, 12, 28 .. 508 entries, so a full chunk has no memory left over.
 const FULL: usize = 508;
 
 /// How many of the chunks begin at or below the name.
@@ -63,7 +64,7 @@ fn chunks_to(chunks: &[Chunk], name: &[u8]) -> usize
     low
 }
 
-/// For how many entries there is memory in these chunks.
+/// How many entries there is memory for in these chunks.
 fn room_of(chunks: &[Chunk]) -> usize
     requires few { length (joined chunks.now) ≤ 2 ^ 32 }
     ensures enough { length (joined chunks.now) ≤ result }
@@ -75,7 +76,8 @@ fn room_of(chunks: &[Chunk]) -> usize
     room
 }
 
-/// Sees to it that there is room for one chunk more. A list that grows has room for twice its chunks.
+/// Makes sure that there is room for one more chunk. A list that grows gets at least twice the room that it
+/// had.
 fn room_for_one(later: &mut Vec<Chunk>) -> Result<(), AllocError>
     ensures same { later.new.items ≡ later.old.items }
     ensures room { OnOk result (length later.new.items < vec_capacity later.new) }
@@ -164,7 +166,7 @@ fn put_later(later: &mut Vec<Chunk>, chunk: usize, name: Name, key: Key) -> Resu
     Ok(())
 }
 
-/// Puts an entry into the chunk that its name belongs into.
+/// Puts an entry into the chunk that its name belongs to.
 fn put(first: &mut Chunk, later: &mut Vec<Chunk>, name: Name, key: Key) -> Result<(), Refusal>
     requires rising { IsRising (joined (first.old ∷ later.old.items)) }
     requires some { HaveSome later.old.items }
@@ -184,8 +186,9 @@ fn put(first: &mut Chunk, later: &mut Vec<Chunk>, name: Name, key: Key) -> Resul
     put_later(later, count - 1, name, key)
 }
 
-/// Frees memory of chunks that are gone, if there is room for more than four times those that are
-/// left. If no smaller memory can be had it stays; if no chunk is left, all is freed.
+/// Frees the memory of chunks that are gone, if there is room for at least four times the chunks that are
+/// left, and four more. The memory stays if no smaller memory can be allocated. If no chunk is left, all
+/// memory is freed.
 fn thin(later: &mut Vec<Chunk>)
     ensures same { later.new.items ≡ later.old.items }
     ensures fits { vec_capacity later.new ≤ vec_capacity later.old }
@@ -198,7 +201,7 @@ fn thin(later: &mut Vec<Chunk>)
     }
 }
 
-/// Takes an entry out of the first chunk. If that was its last, the next chunk becomes the first.
+/// Takes an entry out of the first chunk. If that was its last entry, the next chunk becomes the first.
 fn take_first(first: &mut Chunk, later: &mut Vec<Chunk>, name: &[u8]) -> Option<Key>
     requires rising { IsRising (joined (first.old ∷ later.old.items)) }
     requires some { HaveSome later.old.items }
@@ -218,7 +221,7 @@ fn take_first(first: &mut Chunk, later: &mut Vec<Chunk>, name: &[u8]) -> Option<
     Some(key)
 }
 
-/// Takes an entry out of one of the later chunks. If that was its last, the chunk goes too.
+/// Takes an entry out of one of the later chunks. If that was its last entry, the chunk is removed too.
 fn take_later(later: &mut Vec<Chunk>, chunk: usize, name: &[u8]) -> Option<Key>
     requires rising { IsRising (joined later.old.items) }
     requires some { HaveSome later.old.items }
@@ -237,7 +240,7 @@ fn take_later(later: &mut Vec<Chunk>, chunk: usize, name: &[u8]) -> Option<Key>
     Some(key)
 }
 
-/// Takes an entry out of the chunk that its name belongs into.
+/// Takes an entry out of the chunk that its name belongs to.
 fn take(first: &mut Chunk, later: &mut Vec<Chunk>, name: &[u8]) -> Option<Key>
     requires rising { IsRising (joined (first.old ∷ later.old.items)) }
     requires some { HaveSome later.old.items }
@@ -257,7 +260,7 @@ fn take(first: &mut Chunk, later: &mut Vec<Chunk>, name: &[u8]) -> Option<Key>
 }
 
 impl Chunks {
-    /// No entries. It takes no memory yet.
+    /// Chunks without entries. This allocates nothing yet.
     pub(crate) fn new(alloc: Global) -> Chunks
         ensures empty { result ≡ [] }
     {
@@ -276,7 +279,7 @@ impl Chunks {
         self.len
     }
 
-    /// For how many entries there is memory.
+    /// How many entries there is memory for.
     pub(crate) fn room(&self) -> usize
         ensures enough { length self.now ≤ result }
         ensures none { length self.now ≡ 0 → result ≡ 0 }
@@ -287,7 +290,7 @@ impl Chunks {
         self.first.room().saturating_add(room_of(&self.later))
     }
 
-    /// The chunk that the name belongs into, and those after it.
+    /// The chunk that the name belongs to, and the chunks after it.
     #[inline(always)]
     fn chunk_for(&self, name: &[u8]) -> (&Chunk, &[Chunk])
         requires rising { IsRising self.now }
@@ -311,8 +314,8 @@ impl Chunks {
         key_in(self.chunk_for(name).0, name)
     }
 
-    /// Adds an entry. A chunk that it makes full is split, if there is memory for that. After a refusal
-    /// all is as before.
+    /// Adds an entry. If that makes its chunk full, the chunk is split, if there is memory for the split.
+    /// After a refusal all is as before.
     pub(crate) fn insert(&mut self, name: Name, key: Key) -> Result<(), Refusal>
         requires rising { IsRising self.old }
         requires few { length self.old < 2 ^ 32 }

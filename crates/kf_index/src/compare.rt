@@ -1,4 +1,4 @@
-//! The byte order of names, by eight bytes at a time, or by four.
+//! The byte order of names, compared eight bytes at a time, or four.
 
 ghost use Rattle.std.specs.Prelude.{◌≡◌, ◌≤◌, ◌+◌, length, take, drop, min};
 ghost use Rattle.std.specs.Int.{w32, w64, from_be_bytes};
@@ -7,7 +7,7 @@ ghost use Rattle.std.specs.Cmp.Lexicographic.{slice_cmp};
 
 use std::cmp::Ordering;
 
-/// Eight bytes from a place on, as a number whose highest byte is the first.
+/// The eight bytes from `at` on, as a big-endian number.
 #[inline(always)]
 fn word_at(text: &[u8], at: usize) -> u64
     requires within { at + 8 ≤ length text.now }
@@ -19,7 +19,7 @@ fn word_at(text: &[u8], at: usize) -> u64
     }
 }
 
-/// Four bytes from a place on, as such a number.
+/// The four bytes from `at` on, as a big-endian number.
 #[inline(always)]
 fn half_at(text: &[u8], at: usize) -> u32
     requires within { at + 4 ≤ length text.now }
@@ -31,7 +31,7 @@ fn half_at(text: &[u8], at: usize) -> u32
     }
 }
 
-/// How two texts stand in byte order, byte by byte.
+/// Compares two texts in byte order, byte by byte.
 #[inline(always)]
 fn by_bytes(a: &[u8], b: &[u8]) -> Ordering
     ensures known { result ≡ slice_cmp nat_cmp a.now b.now }
@@ -46,8 +46,8 @@ fn by_bytes(a: &[u8], b: &[u8]) -> Ordering
     a.len().cmp(&b.len())
 }
 
-/// The same for texts of which the shorter has `both` bytes, four to eight: by the first four of them, then
-/// by the last four.
+/// The same for texts of which the shorter has `both` bytes, four to eight: compares the first four of these
+/// bytes, and then the last four.
 #[inline(always)]
 fn by_halves(a: &[u8], b: &[u8], both: usize) -> Ordering
     requires both { both ≡ min (length a.now) (length b.now) }
@@ -66,8 +66,8 @@ fn by_halves(a: &[u8], b: &[u8], both: usize) -> Ordering
     a.len().cmp(&b.len())
 }
 
-/// The same for texts of which the shorter has `both` bytes, eight or more: by eight of them at a time, then
-/// by the last eight.
+/// The same for texts of which the shorter has `both` bytes, eight or more: compares eight of these bytes at
+/// a time, and then the last eight.
 #[inline(always)]
 fn by_words(a: &[u8], b: &[u8], both: usize) -> Ordering
     requires both { both ≡ min (length a.now) (length b.now) }
@@ -89,7 +89,7 @@ fn by_words(a: &[u8], b: &[u8], both: usize) -> Ordering
     a.len().cmp(&b.len())
 }
 
-/// How two texts stand in byte order.
+/// Compares two texts in byte order.
 #[inline(always)]
 pub(crate) fn in_byte_order(a: &[u8], b: &[u8]) -> Ordering
     ensures known { result ≡ slice_cmp nat_cmp a.now b.now }

@@ -1,4 +1,4 @@
-//! The sibling index of a directory: its entries in byte order of their names, found by binary searches.
+//! The sibling index of a directory: its entries in byte order of their names, found by binary search.
 
 ghost use Rattle.std.specs.Prelude.{◌≡◌, ◌<◌, ◌≤◌, ◌^◌, None, IfErr, OnOk, OnErr, if◌then◌else◌};
 ghost use Rattle.std.specs.Option.{option_copied};
@@ -13,11 +13,13 @@ use std::alloc::Global;
 use std::marker::Model;
 
 /// The entries of one directory: each name once, with the key of its node, in byte order of names.
-/// Contracts see an ordered map from names to keys. Of its calls only `insert` needs memory, by the
-/// allocator that `new` was given: `remove` asks for less than there is, and does without. Entries lie in
-/// chunks of some 500, and only places of one chunk move. If it is not refused, a chunk has room for four
-/// times its entries, and three more, at most. The kernel keeps the children of a node so too, in the tree
-/// `kn->dir.children`, but orders them by hashes of their names.
+/// In contracts it is an ordered map from names to keys.
+///
+/// Only `insert` needs memory, from the allocator that was passed to `new`. `remove` may try to allocate less
+/// than there is, and does without if that fails. The entries are in chunks, which are split at about 500
+/// entries, and usually only places of one chunk move. A chunk has room for at most four times its entries,
+/// and three more, unless the memory for a smaller copy was refused. The kernel also keeps the children of a
+/// node in an index, the tree `kn->dir.children`, but orders them by hashes of their names.
 #[derive(Drop)]
 pub struct Index {
     entries: Chunks,
@@ -38,7 +40,7 @@ impl Model for Index {
 }
 
 impl Index {
-    /// An index without entries. It takes no memory yet.
+    /// An index without entries. It allocates nothing yet.
     pub fn new(alloc: Global) -> Index
         ensures empty { result ≡ map.empty }
     {
@@ -64,7 +66,7 @@ impl Index {
         self.entries.len()
     }
 
-    /// For how many entries there is memory. An index without entries has none.
+    /// How many entries there is memory for. An index without entries has no memory.
     #[tactic(auto, using(crate::proofs::Edited::len_of_rising))]
     pub fn room(&self) -> usize
         ensures enough { map.len self.now ≤ result }
@@ -73,9 +75,10 @@ impl Index {
         self.entries.room()
     }
 
-    /// Adds an entry (`kernfs_link_sibling`). Refuses `Exists` if the name is there, then `NoMemory` if
-    /// the growth by one entry needs memory. After a refusal all is as before, and the name is dropped. So a
-    /// caller that makes it the last growth of a command has nothing to undo.
+    /// Adds an entry (`kernfs_link_sibling`). It is refused with `Exists` if the name is there, and then with
+    /// `NoMemory` if the growth by one entry needs memory and there is none. After a refusal all is as
+    /// before, and the name is dropped. So a caller that does this as the last allocation of a command has
+    /// nothing to undo.
     ///
     /// Condition: there are fewer than 2^32 entries, since the number of a place takes four bytes.
     pub fn insert(&mut self, name: Name, key: Key) -> Result<(), Refusal>
@@ -90,8 +93,8 @@ impl Index {
     }
 
     /// Takes the entry of this name out and returns its key, or None if there is none
-    /// (`kernfs_unlink_sibling`). With the last entry the memory of all is given back. Where few of many are
-    /// left in a chunk, they move to less memory, or stay if there is none to be had.
+    /// (`kernfs_unlink_sibling`). With the last entry, all memory is freed. If few of many entries are left
+    /// in a chunk, they move to less memory, or stay if that cannot be allocated.
     pub fn remove(&mut self, name: &[u8]) -> Option<Key>
         ensures found { result ≡ map.get self.old name.now }
         ensures removed { self.new ≡ map.remove self.old name.now }

@@ -1,4 +1,4 @@
-//! Entries of an index one after another, as they are listed.
+//! Entries of an index, one after another, as they are listed.
 
 ghost use Rattle.std.specs.Prelude.{◌≡◌, ◌∷◌, ◌++◌, ◌≤◌, ◌^◌, ℕ, List, [], length, IfSome, IfNone, IsTrue, ◌↔◌};
 ghost use Rattle.kf_core.specs.declared.key.Key.{Key};
@@ -10,13 +10,13 @@ use crate::part::Part;
 use kf_core::Key;
 use std::marker::Model;
 
-/// Entries of an index one after another, each with its name and its key. They stay where they are, so
-/// nothing is copied. Contracts see the list of them.
+/// Entries of an index, one after another, each with its name and its key. They stay in the index, so nothing
+/// is copied. In contracts it is the list of these entries.
 #[derive(Drop)]
 pub struct Listed<'a> {
-    /// The first of them, all in one chunk.
+    /// The first of the entries, all in one chunk.
     part: Part<'a>,
-    /// The chunks of the others, none of them empty.
+    /// The chunks of the other entries. None of these chunks is empty.
     later: &'a [Chunk],
 }
 
@@ -46,7 +46,7 @@ fn length_of(chunks: &[Chunk]) -> usize
 }
 
 impl<'a> Listed<'a> {
-    /// What stands in a part and in later chunks.
+    /// The entries of a part, and then those of later chunks.
     #[inline(always)]
     pub(crate) fn new(part: Part<'a>, later: &'a [Chunk]) -> Listed<'a>
         requires some { HaveSome later.now }
@@ -67,14 +67,14 @@ impl<'a> Listed<'a> {
         }
     }
 
-    /// How many there are.
+    /// How many entries there are.
     pub fn len(&self) -> usize
         ensures known { result ≡ length self.now }
     {
         self.part.len() + length_of(self.later)
     }
 
-    /// Whether there are none.
+    /// Whether there are no entries.
     #[inline(always)]
     pub fn is_empty(&self) -> bool
         ensures known { IsTrue result ↔ (self.now ≡ []) }
@@ -82,7 +82,7 @@ impl<'a> Listed<'a> {
         self.part.is_empty() && self.later.is_empty()
     }
 
-    /// The first of them, and the others.
+    /// The first of the entries, and the others, or None if there are no entries.
     #[inline(always)]
     pub fn split_first(self) -> Option<((&'a Name, Key), Listed<'a>)>
         ensures split { IfSome result (λ split. self.entry ≡ (split.0.0.now, split.0.1) ∷ split.1) }
@@ -95,7 +95,7 @@ impl<'a> Listed<'a> {
         }
     }
 
-    /// The first of the entries in these chunks, and the others.
+    /// The first of the entries in these chunks, and the others, or None if there are no entries.
     fn of_chunks(later: &'a [Chunk]) -> Option<((&'a Name, Key), Listed<'a>)>
         requires some { HaveSome later.now }
         requires few { length (joined later.now) ≤ 2 ^ 32 }

@@ -1,4 +1,4 @@
-//! Lawful names: the bytes that a node may be called by in its directory.
+//! Lawful names: the bytes that may be the name of a node in its directory.
 
 ghost use Rattle.std.specs.Prelude.{◌≡◌, ◌≤◌, ℕ, List, length, None, IsOk, IfOk, IfErr};
 ghost use Rattle.std.specs.Option.{unwrap_or};
@@ -8,8 +8,8 @@ use kf_core::{NameBytes, Refusal};
 use std::alloc::{AllocError, Global};
 use std::marker::Model;
 
-/// What is wrong with a name, or None if it is lawful. The length is looked at first:
-/// more than 255 bytes is `NameTooLong`, any other fault `Invalid`. It takes no memory.
+/// What is wrong with a name, or None if it is lawful. The length is tested first: more than 255 bytes is
+/// `NameTooLong`, any other fault is `Invalid`. This allocates nothing.
 pub fn name_fault(bytes: &[u8]) -> Option<Refusal>
     ensures first { result ≡ name_fault bytes.now }
 {
@@ -28,7 +28,7 @@ pub fn name_fault(bytes: &[u8]) -> Option<Refusal>
 }
 
 /// A lawful name: 1 to 255 bytes without a slash or a zero byte, and neither `.` nor `..`.
-/// Contracts see the list of its bytes.
+/// In contracts it is the list of its bytes.
 #[derive(Drop)]
 pub struct Name {
     bytes: NameBytes,
@@ -43,8 +43,8 @@ impl Model for Name {
 }
 
 impl Name {
-    /// A copy of the bytes, if they are a lawful name. Refuses what `name_fault` finds,
-    /// `NameTooLong` or `Invalid`, then `NoMemory` if the copy needs memory.
+    /// A copy of the bytes, if they are a lawful name. It is refused with what `name_fault` finds,
+    /// `NameTooLong` or `Invalid`, and then with `NoMemory` if the copy needs memory and there is none.
     pub fn new(alloc: Global, bytes: &[u8]) -> Result<Name, Refusal>
         ensures made { IfOk result (λ name. name ≡ bytes.now) }
         ensures lawful { IfOk result (λ name. IsLawfulName name) }
@@ -61,8 +61,8 @@ impl Name {
         }
     }
 
-    /// A copy of bytes that are known to be a lawful name, without a look at them. It takes memory for more
-    /// than 24 bytes only, and is refused if there is none.
+    /// A copy of bytes that are known to be a lawful name, so they are not tested. It allocates only for more
+    /// than 24 bytes, and is refused if there is no memory.
     ///
     /// Condition: the bytes are a lawful name.
     pub fn of_lawful(alloc: Global, bytes: &[u8]) -> Result<Name, AllocError>

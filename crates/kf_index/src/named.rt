@@ -1,4 +1,4 @@
-//! What one chunk has of a name: its key, its place above a bound, and its coming and going.
+//! One name in one chunk: its key, the first name above it, and how it is added and removed.
 
 ghost use Rattle.std.specs.Prelude.{◌≡◌, ◌<◌, ◌^◌, Some, length, IfErr, IfNone, IfSome, OnErr, OnOk};
 ghost use Rattle.kf_index.specs.Chunks.{HasKey, LacksName, IsPut, WasRefused, IsTakenOut};

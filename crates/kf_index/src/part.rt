@@ -8,11 +8,11 @@ use crate::name::Name;
 use kf_core::Key;
 use std::marker::Model;
 
-/// Entries of a chunk one after another, each with its name and its key. They stay where they are, so
-/// nothing is copied. Contracts see the list of them.
+/// Entries of a chunk, one after another, each with its name and its key. They stay in the chunk, so nothing
+/// is copied. In contracts it is the list of these entries.
 #[derive(Drop)]
 pub(crate) struct Part<'a> {
-    /// The place of each, in their order.
+    /// The place of each entry, in the order of the entries.
     order: &'a [u32],
     /// An entry at each place, or None if the place is free.
     entries: &'a [Option<(Name, Key)>],
@@ -30,8 +30,8 @@ impl<'a> Model for Part<'a> {
     ghost invariant = { λ part. AreTaken part.entries.now part.order.now };
 }
 
-/// One of the places in an order. If there is only one place, the order is not looked at: a walk waits
-/// for one load less in a directory of one name.
+/// One of the places in an order. If there is only one place, the order is not read. So in a directory with
+/// one name a walk waits for one load less.
 #[inline(always)]
 fn place_at(entries: &[Option<(Name, Key)>], order: &[u32], at: usize) -> usize
     requires taken { AreTaken entries.now order.now }
@@ -45,7 +45,7 @@ fn place_at(entries: &[Option<(Name, Key)>], order: &[u32], at: usize) -> usize
 }
 
 impl<'a> Part<'a> {
-    /// What stands at these places, in this order.
+    /// The entries at these places, in this order.
     #[inline(always)]
     pub(crate) fn new(entries: &'a [Option<(Name, Key)>], order: &'a [u32]) -> Part<'a>
         requires taken { AreTaken entries.now order.now }
@@ -65,7 +65,7 @@ impl<'a> Part<'a> {
         }
     }
 
-    /// How many there are.
+    /// How many entries there are.
     #[inline(always)]
     pub(crate) fn len(&self) -> usize
         ensures known { result ≡ length self.now }
@@ -73,7 +73,7 @@ impl<'a> Part<'a> {
         self.order.len()
     }
 
-    /// Whether there are none.
+    /// Whether there are no entries.
     #[inline(always)]
     pub(crate) fn is_empty(&self) -> bool
         ensures known { IsTrue result ↔ (self.now ≡ []) }
@@ -81,7 +81,7 @@ impl<'a> Part<'a> {
         self.order.is_empty()
     }
 
-    /// The name and the key of one of them.
+    /// The name and the key of one of the entries.
     #[inline(always)]
     pub(crate) fn at(&self, at: usize) -> (&'a Name, Key)
         requires within { at < length self.now }
@@ -94,7 +94,7 @@ impl<'a> Part<'a> {
         }
     }
 
-    /// Those from a place in the list on.
+    /// The entries from a position in the list on.
     #[inline(always)]
     pub(crate) fn from(self, at: usize) -> Part<'a>
         requires within { at ≤ length self }
@@ -106,7 +106,7 @@ impl<'a> Part<'a> {
         }
     }
 
-    /// The first of them, and the others.
+    /// The first of the entries, and the others, or None if there are no entries.
     #[inline(always)]
     pub(crate) fn split_first(self) -> Option<((&'a Name, Key), Part<'a>)>
         ensures split { IfSome result (λ split. self.entry ≡ (split.0.0.now, split.0.1) ∷ split.1) }

@@ -1,5 +1,5 @@
-//! Entries at places that each one keeps, and the order of these places: when one comes or goes, only places
-//! move.
+//! Entries at places that they keep, and the order of these places. When an entry is added or removed, only
+//! places move.
 
 ghost use Rattle.std.specs.Prelude.{◌≡◌, ◌<◌, ◌≤◌, ◌+◌, ◌-◌, ◌*◌, ◌^◌, ◌++◌, ◌∷◌, ℕ, List, [], length, max, take, drop, reverse, insert, remove, slice_index_or, vec_capacity, OnOk, ◌≢◌};
 ghost use Rattle.kf_core.specs.declared.key.Key.{Key};
@@ -9,7 +9,7 @@ use crate::name::Name;
 use kf_core::Key;
 use std::alloc::AllocError;
 
-/// Adds a free place behind all others, if there is room for it.
+/// Adds a free place after all others. There must be room for it.
 pub(crate) fn add_place(entries: &mut Vec<Option<(Name, Key)>>, order: &mut Vec<u32>, len: usize)
     requires kept { AreInOrder entries.old.items order.old.items len }
     requires few { length order.old.items < 2 ^ 32 }
@@ -27,7 +27,7 @@ pub(crate) fn add_place(entries: &mut Vec<Option<(Name, Key)>>, order: &mut Vec<
     order.push_reserved(place);
 }
 
-/// Sees to it that a place is free. After a refusal no entry has moved.
+/// Makes sure that a place is free. After a refusal no entry has moved.
 pub(crate) fn make_room(
     entries: &mut Vec<Option<(Name, Key)>>,
     order: &mut Vec<u32>,
@@ -54,7 +54,7 @@ pub(crate) fn make_room(
     if len < order.len() {
         return Ok(());
     }
-    // First the room in both, so that after a refusal both are still as many.
+    // Both get their room first, so that after a refusal they still have the same length.
     if order.len() == order.capacity() {
         order.reserve_exact(len + 4)?;
     }
@@ -65,7 +65,7 @@ pub(crate) fn make_room(
     Ok(())
 }
 
-/// Moves the last place to another one in the order, and those from there on up.
+/// Moves the last place of an order to the position `at`, and the places from there on up by one.
 pub(crate) fn last_to(order: &mut [u32], at: usize)
     requires within { at < length order.old }
     ensures moved { (front : List ℕ) (last : ℕ) → order.old ≡ front ++ last ∷ []
@@ -74,7 +74,7 @@ pub(crate) fn last_to(order: &mut [u32], at: usize)
     order[at..].rotate_right(1);
 }
 
-/// Puts an entry to a free place, and that place into the order.
+/// Puts an entry into a free place, and that place into the order.
 pub(crate) fn put_at(
     entries: &mut [Option<(Name, Key)>],
     order: &mut [u32],
@@ -94,7 +94,7 @@ pub(crate) fn put_at(
     last_to(&mut order[..len + 1], at);
 }
 
-/// Moves one of the places behind all others, and those after it down.
+/// Moves one of the places to the end of an order, and the places after it down by one.
 pub(crate) fn to_last(order: &mut [u32], at: usize)
     requires within { at < length order.old }
     ensures moved { (other : ℕ) →
@@ -103,7 +103,7 @@ pub(crate) fn to_last(order: &mut [u32], at: usize)
     order[at..].rotate_left(1);
 }
 
-/// Takes an entry out, and its place to the free ones.
+/// Takes an entry out, and moves its place to the free ones.
 pub(crate) fn take_at(
     entries: &mut [Option<(Name, Key)>],
     order: &mut [u32],
@@ -125,7 +125,7 @@ pub(crate) fn take_at(
     }
 }
 
-/// Gives all memory back, if no entry is left.
+/// Frees all memory, if no entry is left.
 pub(crate) fn free_when_empty(
     entries: &mut Vec<Option<(Name, Key)>>,
     order: &mut Vec<u32>,
@@ -147,7 +147,7 @@ pub(crate) fn free_when_empty(
     }
 }
 
-/// Puts an entry behind all others, if there is room for it.
+/// Puts an entry after all others. There must be room for it.
 pub(crate) fn put_last(
     entries: &mut Vec<Option<(Name, Key)>>,
     order: &mut Vec<u32>,
@@ -170,7 +170,7 @@ pub(crate) fn put_last(
     put_at(entries, order, len, len, entry);
 }
 
-/// Turns the order of all entries round.
+/// Reverses the order of all entries.
 pub(crate) fn turn(entries: &[Option<(Name, Key)>], order: &mut [u32])
     requires kept { AreInOrder entries.now order.old (length order.old) }
     ensures kept { AreInOrder entries.now order.new (length order.old) }
@@ -180,8 +180,8 @@ pub(crate) fn turn(entries: &[Option<(Name, Key)>], order: &mut [u32])
     order.reverse();
 }
 
-/// Takes all entries but the first `stay` out, the last one first, and puts each behind those that are
-/// there. The caller sees to it that there is room.
+/// Takes all entries except the first `stay` out, the last one first, and puts each after those that are in
+/// `to` already. The caller must make room for them.
 pub(crate) fn move_turned(
     entries: &mut [Option<(Name, Key)>],
     order: &mut [u32],
@@ -215,8 +215,8 @@ pub(crate) fn move_turned(
     }
 }
 
-/// Moves all entries to memory for `room` of them, and gives theirs back. After a refusal they stay where
-/// they are.
+/// Moves all entries to memory for `room` of them, and frees their old memory. After a refusal no entry has
+/// moved.
 pub(crate) fn fit(
     entries: &mut Vec<Option<(Name, Key)>>,
     order: &mut Vec<u32>,
@@ -242,8 +242,7 @@ pub(crate) fn fit(
     Ok(())
 }
 
-/// Frees memory beyond what this many entries may keep. After a refusal they stay where they
-/// are.
+/// Frees memory beyond what this many entries may keep. After a refusal no entry has moved.
 pub(crate) fn give_back(
     entries: &mut Vec<Option<(Name, Key)>>,
     order: &mut Vec<u32>,

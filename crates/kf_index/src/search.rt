@@ -9,7 +9,7 @@ use crate::part::Part;
 use kf_core::Key;
 use std::cmp::Ordering;
 
-/// Where the name is, and its key, or else where it would go.
+/// The place of the name and its key, or, if the name is not there, the place that it would get.
 #[inline(always)]
 pub(crate) fn search(entries: Part<'_>, name: &[u8]) -> Result<(usize, Key), usize>
     requires rising { IsRising entries }
@@ -17,7 +17,8 @@ pub(crate) fn search(entries: Part<'_>, name: &[u8]) -> Result<(usize, Key), usi
     ensures key { IfOk result (λ found. found.1 ≡ (slice_index_or entries.entry found.0 no_entry).1) }
     ensures absent { IfErr result (λ at. IsGapFor entries.entry name.now at) }
 {
-    // Not by a closure: a loop of our own keeps the name in registers and ends once it is met.
+    // This is a loop of our own, without a closure, so that it keeps the name in registers and ends once it
+    // meets the name.
     let mut low = 0;
     let mut high = entries.len();
     while low < high {

@@ -1,4 +1,4 @@
--- A walk by links is a walk in the tree among its live records.
+-- A walk along the links is a walk through the live records of the tree.
 use Rattle.std.proofs.Common.{◌≡◌, inl, inr, refl, ap, sym, ◌∙◌, true, cond, List, [], ◌∷◌, ℕ}
 use Rattle.std.specs.Prelude.{Option, None, Some, Ok, map}
 use Rattle.std.specs.Option.{option_and_then, ok_or}
@@ -29,7 +29,7 @@ module _ (links : List Link) (t : Tree) (root : Key) (sound : AreSound links t) 
   shows : (r : Record) → lives r ≡ true → Some r ≡ only_live (Some r)
   shows r live = sym (ap (λ b. cond b (Some r) None) live)
 
-  -- one name further
+  -- one step of the walk leads from a live directory to a live record in that directory
   one_step : (here r : Record) (name : List ℕ) → record_at t here.key ≡ Some here → lives here ≡ true → StandsAt t here.key name r → lives r ≡ true → next_key (map only_live t) here.key name ≡ Ok r.key
   one_step here r name known live stands lives_too =
       let is_here : IsIn t here = (found_in t here.key here known).0 in

@@ -1,4 +1,4 @@
--- What no links say: that no record stands anywhere, as in the tree that has only the root.
+-- An empty list of links says that no directory has anything in it, as in the tree that has only the root.
 use Rattle.std.proofs.Common.{◌≡◌, inl, inr, ap, sym, ◌∙◌, [], ℕ, zero, suc}
 use Rattle.std.specs.Prelude.{None, Some, slice_get, replicate}
 use Rattle.std.proofs.lemmas.Option.{same_Some, none-some}

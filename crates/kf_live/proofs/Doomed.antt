@@ -1,4 +1,4 @@
--- What is doomed: it is not live, and stays doomed while other nodes change.
+-- A doomed node is not live, and stays doomed while other nodes change.
 use Rattle.std.proofs.Common.{◌≡◌, ◌≢◌, inl, inr, refl, ap, sym, ◌∙◌, subst, Bool, true, false, ℕ, zero, suc}
 use Rattle.std.specs.Prelude.{Option, None, Some, not, ◌&&◌}
 use Rattle.std.specs.Option.{option_map}
@@ -14,7 +14,7 @@ use Rattle.kf_table.specs.Live.{lives, lives_in}
 use Rattle.kf_tree.specs.Causes.{doomed_in}
 use Rattle.kf_live.specs.Live.{SameBut, StaysDoomed}
 
--- whether a place has a doomed record, or none
+-- whether a slot has a doomed record; an empty slot counts as doomed
 abbrev pub is_doomed : Option Record → Bool
 is_doomed o = are_doomed (option_map (λ (r : Record). r.marks) o)
 
@@ -33,14 +33,14 @@ live_active t key r known live = elim (doomed_in t key) as (λ b. doomed_in t ke
   | false ↦ λ e. refl
 ] refl
 
--- if the trees differ only at one key, and that stays doomed, all that was doomed is doomed
+-- if trees differ only at one key, and that key stays doomed if it was, all that was doomed is still doomed
 pub was_active : (t t' : Tree) (key : Key) → SameBut key t t' → StaysDoomed key t t' → (dir : Key) → doomed_in t' dir ≡ false → doomed_in t dir ≡ false
 was_active t t' key same stays dir active = elim (keys_tell dir key) [
   | inl e ↦ subst (λ k. doomed_in t k ≡ false) (sym e.1) (stays (subst (λ k. doomed_in t' k ≡ false) e.1 active))
   | inr n ↦ ap is_doomed (sym (same dir n.1)) ∙ active
 ]
 
--- the directory of each record below the top is in the subtree too
+-- the directory of each record below the top is in the subtree of the top, too
 pub subtree_dir : (t : Tree) (root top dir : Key) (r : Record) → Lawful t root → record_at t r.key ≡ Some r → r.parent ≡ Some dir → r.key ≢ top
     → in_subtree t top r.key ≡ true → (d : Record) × (record_at t dir ≡ Some d) × (in_subtree t top d.key ≡ true)
 subtree_dir t root top dir r lawful known parent other inside = (let up = subtree_to t root lawful top r.key inside in go up.0 up.1)

@@ -1,4 +1,4 @@
--- What the links say of a tree after a command: the same as before, except for the nodes that it changed.
+-- After a command, the links say the same as before, except about the nodes that the command changed.
 use Rattle.std.proofs.Common.{◌≡◌, ◌⊎◌, inl, inr, ◌≢◌, refl, ap, sym, ◌∙◌, subst, Bool, true, false, cond, List, [], ◌∷◌, ℕ}
 use Rattle.std.specs.Prelude.{Option, None, Some, map, ◌&&◌, ◌||◌, not}
 use Rattle.std.specs.Option.{option_map}
@@ -25,7 +25,7 @@ use Rattle.kf_live.specs.Live.{AreSound, SayBut, Say, StandsAt, SameBut, found_o
 use Rattle.kf_live.proofs.Doomed.{is_doomed, doomed_not_live, subtree_dir}
 use Rattle.kf_live.proofs.Said.{sound_but}
 
--- the records have one key, directory, name and node
+-- the two records have the same key, directory, name and node
 pub record KeepsPlace (s r : Record) : Type 0 where
   pub key : s.key ≡ r.key
   pub directory : s.parent ≡ r.parent
@@ -35,15 +35,15 @@ pub record KeepsPlace (s r : Record) : Type 0 where
 same_found : (a b : Record) → a.key ≡ b.key → a.node ≡ b.node → found_of a ≡ found_of b
 same_found a b k n = (let both : Key → Node → Found = λ k n. record { key = k; node = n } in ap (λ x. both x a.node) k ∙ ap (both b.key) n)
 
--- a key that is not the only one of a list
+-- a key that is not in the list of one key is a different key
 pub not_listed : (key k : Key) → contains_key (key ∷ []) k ≡ false → k ≢ key
 not_listed key k out e = elim (keys_tell key k) [
   | inl f ↦ absurd (let never : true ≡ false = sym (ap (λ c. c || false) f.0) ∙ out in cc (never))
   | inr f ↦ absurd (f.1 (sym e))
 ]
 
--- a change of records that leaves each in its place, and doomed if it was. Each record, except for those of these
--- keys, is live as before, or no longer live and in a doomed directory
+-- a change of records that leaves each one in its place, and doomed if it was. Except for the records of
+-- these keys, each one is live as before, or is no longer live and its directory is doomed
 module _ (t : Tree) (g : Record → Record) (keeps : (r : Record) → KeepsPlace (g r) r) (dooms : (r : Record) → (g r).marks.doomed ≡ false → r.marks.doomed ≡ false)
     (keys : List Key) (links : List Link) where
   abbrev changed : Tree
@@ -79,7 +79,7 @@ module _ (t : Tree) (g : Record → Record) (keeps : (r : Record) → KeepsPlace
       go None h = h
       go (Some r) h = dooms r h
 
-  -- what is live as before, and what is left behind in a doomed directory
+  -- the record is live as before, or is no longer live and was left behind in a doomed directory
   abbrev IsSameOrLeft : Key → Record → Type 0
   IsSameOrLeft dir r = (lives (g r) ≡ lives r) ⊎ ((lives (g r) ≡ false) × (doomed_in changed dir ≡ true))
 
@@ -117,7 +117,7 @@ module _ (t : Tree) (g : Record → Record) (keeps : (r : Record) → KeepsPlace
       ));
     }
 
-  -- if each live record stays live, all that the links find stays right
+  -- if each live record stays live, all that the links find is still right
   pub sound_changed : ((r : Record) → lives r ≡ true → lives (g r) ≡ true) → Say links t → AreSound links changed
   sound_changed stays says dir name found is = (let was = says.known dir name found is in (
     g was.0,
@@ -163,7 +163,7 @@ module _ (t : Tree) (top : Key) (keys : List Key) (links : List Link) where
   pub sound_risen : Say links t → AreSound links (after t (Activate top))
   sound_risen = sound_changed t risen keeps_risen dooms_risen keys links stays_live
 
--- a doom: no path leads below the top once that is taken away
+-- a doom: the links say what the tree says, except about the top
 module _ (t : Tree) (root top : Key) (links : List Link) (lawful : Lawful t root) where
   abbrev doomed : Record → Record
   doomed r = cond (in_subtree t top r.key) (doomed_record r) r
@@ -222,7 +222,7 @@ module _ (t : Tree) (key : Key) (b : Bool) (links : List Link) where
         | false ↦ λ h. h
       ]
 
--- a tree that differs only at one key
+-- two trees that differ only at one key
 module _ (t t' : Tree) (key : Key) (links : List Link) (same : SameBut key t t') where
   pub was_there : (dir : Key) (name : List ℕ) (s : Record) → s.key ≢ key → StandsAt t' dir name s → StandsAt t dir name s
   was_there dir name s n there = record { known = sym (same s.key n) ∙ there.known; directory = there.directory; named = there.named; short = there.short }
@@ -233,7 +233,7 @@ module _ (t t' : Tree) (key : Key) (links : List Link) (same : SameBut key t t')
   pub only_key : (k : Key) → k ≡ key → contains_key (key ∷ []) k ≡ true
   only_key k e = elim (keys_tell key k) [ inl f ↦ ap (λ b. b || false) f.0 | inr f ↦ absurd (f.1 (sym e)) ]
 
-  -- a new node, of a key that was not linked: nothing stood in it, and nothing stands in it now
+  -- a new node, whose key was not linked before: nothing was in it, and nothing is in it now
   module _ (root : Key) (lawful : Lawful t root) (vacant : record_at t key ≡ None) (says : Say links t) where
     another : (dir : Key) (name : List ℕ) (r : Record) → StandsAt t dir name r → r.key ≢ key
     another dir name r there e = none-some r (sym vacant ∙ sym (ap (record_at t) e) ∙ there.known)
@@ -259,7 +259,7 @@ module _ (t t' : Tree) (key : Key) (links : List Link) (same : SameBut key t t')
       known = sound_but t' links (key ∷ []) sound_new;
     }
 
-    -- one that is not live
+    -- a new node that is not live
     pub said_quiet : live_in t' key ≡ false → Say links t'
     said_quiet quiet = record {
       told = λ dir name s there live. elim (keys_tell s.key key) [

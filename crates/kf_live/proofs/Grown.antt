@@ -1,4 +1,4 @@
--- Links that were made one after the other, and what held each time.
+-- Links are made one after another, and a fact is true each time.
 use Rattle.std.proofs.Common.{◌≡◌, inl, inr, refl, ap, sym, ◌∙◌, subst, append_assoc, List, [], ◌∷◌, ◌++◌}
 use Rattle.std.specs.Prelude.{Bool, true, false, ℕ, Option, None, Some}
 use Rattle.kf_core.specs.declared.key.Key.{Key}
@@ -18,16 +18,16 @@ use Rattle.kf_live.specs.Told.{AtEach, Grew, GrewSound, IsOneMore, LeadAs, WereT
 use Rattle.kf_live.proofs.Alike.{lead_soundly}
 
 module _ (Fact : List Link → Type 0) where
-  -- none was made
+  -- no link was made
   pub grew_none : (before now : List Link) → now ≡ before → Grew Fact before now
   grew_none before now same = ([], same, tt)
 
-  -- one was made, or none, and the fact holds now
+  -- one link was made, or none, and the fact is true now
   pub grew_one : (before now : List Link) → IsOneMore before now → Fact now → Grew Fact before now
   grew_one before now (inl same) holds = ([], same, tt)
   grew_one before now (inr more) holds = (more.0 ∷ [], more.1, (subst Fact more.1 holds, tt))
 
-  -- more links were made behind these
+  -- more links were made after these
   each_more : (before newer newest : List Link) → AtEach Fact before newer → AtEach Fact (newer ++ before) newest → AtEach Fact before (newest ++ newer)
   each_more before newer [] first later = first
   each_more before newer (l ∷ newest) first later = (subst (λ ls. Fact (l ∷ ls)) (sym (append_assoc newest newer before)) later.0, each_more before newer newest first later.1)
@@ -39,7 +39,7 @@ module _ (Fact : List Link → Type 0) where
     each_more before first.0 later.0 first.2 (subst (λ ls. AtEach Fact ls later.0) first.1 later.2),
   )
 
--- what held each time led to what holds each time
+-- if one fact implies another, and the one was true each time, so was the other
 module _ (Fact Then : List Link → Type 0) (so : (links : List Link) → Fact links → Then links) (before : List Link) where
   each_then : (newer : List Link) → AtEach Fact before newer → AtEach Then before newer
   each_then [] each = tt
@@ -48,26 +48,26 @@ module _ (Fact Then : List Link → Type 0) (so : (links : List Link) → Fact l
   pub grew_then : (now : List Link) → Grew Fact before now → Grew Then before now
   grew_then now grew = (grew.0, grew.1, each_then grew.0 grew.2)
 
--- sound links lead as a lawful tree has it
+-- sound links lead to what a lawful tree has there
 pub led_as : (t : Tree) (root : Key) → Lawful t root → (links : List Link) → AreSound links t → LeadAs t root links
 led_as t root lawful links sound path found = lead_soundly links t root path found sound lawful
 
--- a name that was given its child, or had it
+-- to give a name its child, one link is made, or none if the name had that child
 pub given_one : (dir : Key) (name : List ℕ) (child : Found) (before now : List Link) → IsGiven dir name child before now → IsOneMore before now
 given_one dir name child before now (inl made) = inr (link dir name (Some child), made)
 given_one dir name child before now (inr already) = inl already.0
 
--- a name that was taken away from the node's place, if it had one
+-- to take a name away from the node's place, one link is made, or none if there is no place
 pub without_one : (was : Option Spot) (links : List Link) → IsOneMore links (without was links)
 without_one None links = inl refl
 without_one (Some spot) links = inr (link spot.dir (bytes_in spot.name) None, refl)
 
--- the writer's links before and now, if each time they were sound for a lawful tree
+-- if the writer's links were sound for a lawful tree each time, they led to what the tree has there each time
 pub told_as : (s : TreeLog) (own taken now : Option Writer) → Lawful s.tree s.root → taken ≡ own → GrewSound s.tree (links_by taken) (links_by now) → WereTold (links_by own) (links_by now) s
 told_as s own taken now lawful same grew = grew_then (λ links. AreSound links s.tree) (LeadAs s.tree s.root) (led_as s.tree s.root lawful) (links_by own) (links_by now)
     (subst (λ o. GrewSound s.tree (links_by o) (links_by now)) same grew)
 
--- a tree in which a node moved, or stays in its place, is lawful
+-- a lawful tree is still lawful after a node moved, or stayed in its place
 pub moved_lawful : (s s' : TreeLog) (cause : Option Refusal) (command : Command) (stays : Bool) → Lawful s.tree s.root → (stays ≡ true → s' ≡ s) → (stays ≡ false → IsAccepted s s' cause command) → Lawful s'.tree s'.root
 moved_lawful s s' cause command true lawful same accepted = subst (λ (x : TreeLog). Lawful x.tree x.root) (sym (same refl)) lawful
 moved_lawful s s' cause command false lawful same accepted = (accepted refl).kept.lawful

@@ -1,4 +1,4 @@
--- What the links say once they say of one node what the tree says.
+-- What the links say once they say about one node what the tree says.
 use Rattle.std.proofs.Common.{◌≡◌, ◌≢◌, ◌⊎◌, inl, inr, refl, ap, sym, drop, drop-cons, get_or, add-one, length, ◌+◌, ◌<◌, ◌∙◌, subst, true, false, cond, List, [], ◌∷◌, ℕ}
 use Rattle.std.specs.Prelude.{Option, None, Some, ◌||◌}
 use Rattle.std.proofs.lemmas.Option.{same_Some, none-some}
@@ -17,18 +17,18 @@ use Rattle.kf_looks.specs.Links.{link, is_of, child_of, IsOfSlot}
 use Rattle.kf_looks.proofs.Naming.{of_tells, of_own}
 use Rattle.kf_live.specs.Live.{FindBut, AreSound, SayBut, StandsAt, IsGiven, found_of, live_found, IsOut}
 
--- a key that is the first of those owed, or one of the others
+-- an owed key is the first of those owed, or one of the others
 owed_first : (key : Key) (owed : List Key) (k : Key) → contains_key (key ∷ owed) k ≡ true → (key ≡ k) ⊎ (contains_key owed k ≡ true)
 owed_first key owed k h = elim (keys_tell key k) [
   | inl e ↦ inl e.1
   | inr n ↦ inr (sym (ap (λ b. b || contains_key owed k) n.0) ∙ h)
 ]
 
--- two records of one key are one
+-- two records of one key are equal
 pub one_record : (t : Tree) (r s : Record) → record_at t r.key ≡ Some r → record_at t s.key ≡ Some s → r.key ≡ s.key → r ≡ s
 one_record t r s a b e = same_Some r s (sym a ∙ ap (record_at t) e ∙ b)
 
--- what is to be found of a live record; and nothing is to be found of another
+-- what look-ups must find for a live record, and that they must find nothing for another record
 found_live : (r : Record) → lives r ≡ true → live_found r ≡ Some (found_of r)
 found_live r h = ap (λ b. cond b (Some (found_of r)) None) h
 
@@ -38,12 +38,12 @@ live_of r found h = elim (lives r) as (λ b. lives r ≡ b → cond b (Some (fou
   | false ↦ λ e f. absurd (none-some found f)
 ] refl h
 
--- more keys may be owed
+-- sound links are right in what they find, whichever keys are owed
 pub sound_but : (t : Tree) (links : List Link) (owed : List Key) → AreSound links t → FindBut owed links t
 sound_but t links owed sound dir name found is = (let there = sound dir name found is in
     (there.0, there.1, there.2, λ active. elim (there.3 active) [ inl never ↦ absurd (cc (never)) | inr now ↦ inr now ]))
 
--- if no record of the key stands under a short name, the key is owed nothing
+-- if no record of a key is under a short name in a directory, the key is no longer owed
 pub told_none : (t : Tree) (links : List Link) (owed : List Key) (key : Key) → SayBut (key ∷ owed) links t → IsOut t key → SayBut owed links t
 told_none t links owed key says out = record {
   told = λ dir name r stands live. elim (says.told dir name r stands live) [
@@ -62,12 +62,12 @@ told_none t links owed key says out = record {
 }
 
 module _ (t : Tree) (root : Key) (lawful : Lawful t root) (links : List Link) where
-  -- two records that stand under one name in one directory are one
+  -- two records under the same name in the same directory are equal
   pub one_place : (dir : Key) (name : List ℕ) (r s : Record) → StandsAt t dir name r → StandsAt t dir name s → r ≡ s
   one_place dir name r s a b = one_record t r s a.known b.known
       (lawful.siblings r s (found_in t r.key r a.known).0 (found_in t s.key s b.known).0 (a.directory ∙ sym b.directory) (a.named ∙ sym b.named))
 
-  -- what the links find in the place of a record has that record's slot
+  -- what the links find in the place of a record has the slot of that record
   pub of_slot : (owed : List Key) (dir : Key) (name : List ℕ) (r : Record) → SayBut owed links t → StandsAt t dir name r → IsOfSlot links dir name r.key.slot
   of_slot owed dir name r says stands found is =
       let there = says.known dir name found is in
@@ -77,14 +77,14 @@ module _ (t : Tree) (root : Key) (lawful : Lawful t root) (links : List Link) wh
     abbrev made : Link
     made = link dir name (live_found r)
 
-    -- a record elsewhere is not this one
+    -- a record in another place has another key
     elsewhere : (d : Key) (n : List ℕ) (s : Record) → StandsAt t d n s → is_of d n made ≡ false → key ≢ s.key
     elsewhere d n s other apart e =
         let same : r ≡ s = one_record t r s stands.known other.known (own ∙ e) in
         let here : (d ≡ dir) × (n ≡ name) = (same_Some d dir (sym other.directory ∙ ap (λ (x : Record). x.parent) (sym same) ∙ stands.directory), sym other.named ∙ ap (λ (x : Record). x.name) (sym same) ∙ stands.named) in
         absurd (let no : true ≡ false = sym (of_own made) ∙ subst (λ d. is_of d name made ≡ false) here.0 (subst (λ n. is_of d n made ≡ false) here.1 apart) in cc (no))
 
-    -- those owed, except for this one
+    -- if the key of a record in another place is owed, it is one of the other owed keys, not this one
     later : (d : Key) (n : List ℕ) (s : Record) → StandsAt t d n s → is_of d n made ≡ false → contains_key (key ∷ owed) s.key ≡ true → contains_key owed s.key ≡ true
     later d n s other apart c = elim (owed_first key owed s.key c) [ inl e ↦ absurd (elsewhere d n s other apart e) | inr more ↦ more ]
 
@@ -107,7 +107,7 @@ module _ (t : Tree) (root : Key) (lawful : Lawful t root) (links : List Link) wh
           ))
         ] refl
 
-    -- the links now say what the record is, in its place
+    -- once a link says what the record in this place is, the key of the record is no longer owed
     pub told_one : SayBut (key ∷ owed) links t → SayBut owed (made ∷ links) t
     told_one says = record {
       told = λ d n s other live. elim (is_of d n made) as (λ b. is_of d n made ≡ b → (contains_key owed s.key ≡ true) ⊎ (cond b (live_found r) (child_of links d n) ≡ Some (found_of s))) [
@@ -126,7 +126,7 @@ module _ (t : Tree) (root : Key) (lawful : Lawful t root) (links : List Link) wh
         let same : r ≡ s = one_record t r s stands.known other.known (own ∙ e) in
         (same, same_Some dir d (sym stands.directory ∙ ap (λ (x : Record). x.parent) same ∙ other.directory), sym stands.named ∙ ap (λ (x : Record). x.name) same ∙ other.named)
 
-    -- the links say already that the record stands there
+    -- the links say already that the record is in this place
     module _ (alive : lives r ≡ true) (there : child_of links dir name ≡ Some (found_of r)) where
       at_place : (d : Key) (n : List ℕ) (s : Record) → StandsAt t d n s → key ≡ s.key → child_of links d n ≡ Some (found_of r)
       at_place d n s other e = let p = same_place d n s other e in
@@ -156,7 +156,7 @@ module _ (t : Tree) (root : Key) (lawful : Lawful t root) (links : List Link) wh
         known = found_already says.known;
       }
 
-    -- the record is live, and its name was given it, or had it already
+    -- the record is live, and its name was given this child, or had it already
     module _ (child : Found) (now : List Link) (live : live_found r ≡ Some child) where
       pub told_live : IsGiven dir name child links now → SayBut (key ∷ owed) links t → SayBut owed now t
       told_live (inl made_now) says = subst (λ l. SayBut owed l t) (sym made_now)
@@ -170,7 +170,7 @@ module _ (t : Tree) (root : Key) (lawful : Lawful t root) (links : List Link) wh
       found_given (inr already) known = let alive = live_of r child live in
           subst (λ l. FindBut owed l t) (sym already.0) (found_already alive.0 (already.1 ∙ ap Some alive.1) known)
 
-  -- what is sound stays sound
+  -- sound links stay sound after a link says what this record is
   module _ (key dir : Key) (name : List ℕ) (r : Record) (own : r.key ≡ key) (stands : StandsAt t dir name r) where
     pub sound_one : AreSound links t → AreSound (link dir name (live_found r) ∷ links) t
     sound_one sound = found_one [] key dir name r own stands (sound_but t links (key ∷ []) sound)
@@ -178,6 +178,6 @@ module _ (t : Tree) (root : Key) (lawful : Lawful t root) (links : List Link) wh
     pub sound_live : (child : Found) (now : List Link) → live_found r ≡ Some child → IsGiven dir name child links now → AreSound links t → AreSound now t
     sound_live child now live given sound = found_given [] key dir name r own stands child now live given (sound_but t links (key ∷ []) sound)
 
--- the first of the keys that are left, and the others
+-- the keys that are left are the first of them and the others
 pub drop_one : (keys : List Key) (i : ℕ) (d : Key) → i < length keys → drop i keys ≡ get_or keys i d ∷ drop (i + 1) keys
 drop_one keys i d l = drop-cons keys i d l ∙ ap (λ n. get_or keys i d ∷ drop n keys) (sym (add-one i))

@@ -73,7 +73,7 @@ moved_only t key dir name k n = find_mapped t (going key dir name) same_keys k �
     ]
 
 module _ (t t' : Tree) (root key : Key) (lawful : Lawful t root) (links : List Link) (says : Say links t) (same : SameBut key t t') (stays : StaysDoomed key t t') where
-  -- what is found of a record that is elsewhere
+  -- what the links find of a record with another key is still right in the new tree
   stays_found : (d : Key) (n : List ℕ) (found : Found) (is : child_of links d n ≡ Some found) → (says.known d n found is).0.key ≢ key
       → (s : Record) × StandsAt t' d n s × (found.key ≡ s.key) × (doomed_in t' d ≡ false → (contains_key [] s.key ≡ true) ⊎ ((lives s ≡ true) × (found ≡ found_of s)))
   stays_found d n found is other = (let was = says.known d n found is in
@@ -125,17 +125,17 @@ module _ (t t' : Tree) (root key : Key) (lawful : Lawful t root) (links : List L
       known = sound_but t' (gone ∷ links) (key ∷ []) withdrawn_one_sound;
     }
 
--- what was found in the record's place has its slot
+-- what the links find at the old place of the record has the slot of that record
 pub move_slot : (links : List Link) (key : Key) (was : Option Spot) (t : Tree) → IsMove links key was t → IfSome was (λ spot. IsOfSlot links spot.dir (bytes_in spot.name) key.slot)
 move_slot links key None t m = tt
 move_slot links key (Some spot) t m = subst (λ (k : Key). IsOfSlot links spot.dir (bytes_in spot.name) k.slot) m.stood.1 (of_slot m.before m.root m.lawful links [] spot.dir (bytes_in spot.name) m.stood.0 m.says m.stood.2)
 
--- once that is taken away, only what the tree now says of the record is owed
+-- once the name in that place is withdrawn, only what the tree now says about the record is owed
 pub move_says : (links : List Link) (key : Key) (was : Option Spot) (t : Tree) → IsMove links key was t → SayBut (key ∷ []) (without was links) t
 move_says links key None t m = withdrawn_none m.before t m.root key m.lawful links m.says m.same m.stays_doomed (λ d n found is. (let was = m.says.known d n found is in m.stood d n was.0 was.1))
 move_says links key (Some spot) t m = withdrawn_one m.before t m.root key m.lawful links m.says m.same m.stays_doomed spot.dir (bytes_in spot.name) m.stood.0 m.stood.1 m.stood.2
 
--- and what they still find is right already
+-- once the name in that place is withdrawn, what the links still find is right
 pub move_sound : (links : List Link) (key : Key) (was : Option Spot) (t : Tree) → IsMove links key was t → AreSound (without was links) t
 move_sound links key None t m = withdrawn_none_sound m.before t m.root key m.lawful links m.says m.same m.stays_doomed (λ d n found is. (let was = m.says.known d n found is in m.stood d n was.0 was.1))
 move_sound links key (Some spot) t m = withdrawn_one_sound m.before t m.root key m.lawful links m.says m.same m.stays_doomed spot.dir (bytes_in spot.name) m.stood.0 m.stood.1 m.stood.2
@@ -164,7 +164,7 @@ moved_or_stays_doomed s s' key dir name cause false same accepted active = moved
 
 -- ---- a node that leaves the tree
 
--- an unlink that said true was accepted
+-- an unlink that returned true was accepted
 pub was_accepted : (s s' : TreeLog) (key : Key) (unlinked : Bool) → unlinked ≡ true → MatchBool unlinked (IsAccepted s s' (unlink_cause s.tree key) (Unlink key)) (s' ≡ s)
     → IsAccepted s s' (unlink_cause s.tree key) (Unlink key)
 was_accepted s s' key unlinked is h = subst (λ b. MatchBool b (IsAccepted s s' (unlink_cause s.tree key) (Unlink key)) (s' ≡ s)) is h
@@ -176,7 +176,7 @@ unlinked_doomed t key h = elim (doomed_in t key) as (λ b. first_cause (unless b
 ] h
 
 module _ (t : Tree) (root key : Key) (lawful : Lawful t root) (links : List Link) (says : Say links t) where
-  -- what the links find in the place that the record left has its slot
+  -- what the links find in the place that the record left has the slot of that record
   pub left_slot : (left : Option Spot) → IsLeftAt t key left → IfSome left (λ spot. IsOfSlot links spot.dir (bytes_in spot.name) key.slot)
   left_slot None there = tt
   left_slot (Some spot) there = subst (λ (k : Key). IsOfSlot links spot.dir (bytes_in spot.name) k.slot) there.1 (of_slot t root lawful links [] spot.dir (bytes_in spot.name) there.0 says there.2)
@@ -202,7 +202,7 @@ module _ (t : Tree) (root key : Key) (lawful : Lawful t root) (links : List Link
     is_out : IsOut cleared key
     is_out dir name r there e = none-some r (sym not_linked ∙ ap (record_at cleared) (sym e) ∙ there.known)
 
-    -- if the record left no such place, the links do not find it
+    -- if the record left no such place, the links do not find the record
     none_leads : IsLeftAt t key None → (d : Key) (n : List ℕ) (found : Found) (is : child_of links d n ≡ Some found) → (says.known d n found is).0.key ≢ key
     none_leads nowhere d n found is e = (let was = says.known d n found is in
         elim (was.3 (nowhere d n was.0 was.1 e)) [

@@ -4,12 +4,12 @@ use Rattle.kf_core.specs.declared.key.Key.{Key}
 use Rattle.kf_looks.specs.declared.view.Link.{Link}
 use Rattle.kf_looks.specs.declared.view.LookView.{LookView}
 
--- the directory from which paths are followed, for how many slots there are words, and what is known of them
+-- the directory from which paths lead, how many slots have words, and what the looker knows of the words
 pub record Onlooker : Type 0 where
   pub root : Key
   pub slots : ℕ
   pub view : LookView
 
--- the links that were seen, the last first
+-- the links that the looker has seen, the latest first
 abbrev pub links_seen : Onlooker → List Link
 links_seen looker = looker.view.seen

@@ -23,8 +23,9 @@ use std::alloc::Global;
 use std::marker::Model;
 use std::sync::Arc;
 
-/// The tree with its stored commands, and the words that look-ups read: they say what it says of its live
-/// nodes, after each command. Contracts see what they see of a [`State`], and all links that were made.
+/// A tree with its stored commands, and the words that look-ups read. After each command the words say what
+/// the tree says about its live nodes. Contracts see what they see of a [`State`], and all links that were
+/// made.
 #[derive(Drop)]
 pub struct LiveTree {
     pub(crate) state: State,
@@ -46,11 +47,12 @@ impl Model for LiveTree {
 }
 
 impl LiveTree {
-    /// The tree that has only the root, as [`State::new`] makes it, and words for look-ups of that many
-    /// slots. Nodes of higher slots are found only in the tree. With no slot nothing is published, and each
-    /// look-up is sent to the tree.
+    /// A tree with only the root, as [`State::new`] makes it, and with words for look-ups in this many slots.
+    /// Nodes in higher slots are found only in the tree. If `slots` is 0, nothing is published, and every
+    /// look-up returns None, so its caller asks the tree.
     ///
-    /// Conditions: the root's slot is in the table; there are at most [`kf_core::MOST_SLOTS`] slots of words.
+    /// Conditions: the root's slot is in the table; there are at most [`kf_core::MOST_SLOTS`] slots with
+    /// words.
     ///
     /// Refusal: NoMemory.
     pub fn new(alloc: Global, limits: Limits, root: Key, slots: u32) -> Result<LiveTree, Refusal>
@@ -70,9 +72,9 @@ impl LiveTree {
         })
     }
 
-    /// A looker that has seen all that the tree says now: none of its look-ups goes back behind that.
+    /// A looker that has seen everything that the tree says now. None of its look-ups returns anything older.
     ///
-    /// Refusal: NoMemory, if the words may have no further owner.
+    /// Refusal: NoMemory, if the words cannot have another owner.
     pub fn looker(&mut self) -> Result<Lookup, Refusal>
         ensures told { IfOk result
             (λ looker. 0 < looker.slots → Say (links_seen looker) self.old.log.tree) }
@@ -98,7 +100,7 @@ impl LiveTree {
         &self.state
     }
 
-    /// As [`State::activate_in_order`].
+    /// Activates a subtree like [`State::activate_in_order`], and publishes each of its nodes.
     ///
     /// Condition: the order is the post-order of the key's subtree.
     pub fn activate_in_order(&mut self, key: Key, order: &[Key]) -> Result<(), Refusal>
@@ -115,8 +117,8 @@ impl LiveTree {
         Ok(())
     }
 
-    /// As [`State::doom_in_order`]. Only the top's name is taken away from look-ups: no path leads below it
-    /// then. Each node below keeps its line until it is unlinked.
+    /// Dooms a subtree like [`State::doom_in_order`], and withdraws only the top's name from look-ups. After
+    /// that no path leads below the top. Each node below keeps its line in the words until it is unlinked.
     ///
     /// Condition: the order is the post-order of the key's subtree.
     pub fn doom_in_order(&mut self, key: Key, order: &[Key]) -> Result<(), Refusal>
@@ -136,10 +138,10 @@ impl LiveTree {
         Ok(())
     }
 
-    /// As [`State::create_under`].
+    /// Creates a node like [`State::create_under`], and publishes the node if it is live.
     ///
-    /// Conditions: nothing is wrong with the new record, as `create_fault` says, and the key's slot has no
-    /// linked node.
+    /// Conditions: `create_fault` finds nothing wrong with the new record, and the key's slot has no linked
+    /// node.
     pub fn create_under(
         &mut self,
         key: Key,
@@ -164,7 +166,7 @@ impl LiveTree {
         Ok(())
     }
 
-    /// As [`State::rename`].
+    /// Moves a node like [`State::rename`], and publishes the move in one change.
     pub fn rename(&mut self, key: Key, dir: Key, name: &[u8]) -> Result<(), Refusal>
         ensures no_cause { IfOk result
             (λ _. rename_cause self.old.log.tree self.old.log.root key dir name.now ≡ None) }
@@ -188,7 +190,7 @@ impl LiveTree {
         Ok(())
     }
 
-    /// As [`State::unlink`].
+    /// Unlinks a node like [`State::unlink`], and withdraws its name if look-ups may still have it.
     pub fn unlink(&mut self, key: Key) -> Result<bool, Refusal>
         ensures linked { IfOk result (λ unlinked. is_linked self.old.log.tree key ≡ unlinked) }
         ensures accepted { IfOk result (λ unlinked. MatchBool unlinked
@@ -208,7 +210,7 @@ impl LiveTree {
         Ok(unlinked)
     }
 
-    /// As [`State::may_hide`].
+    /// Makes the tree ready to hide a file, like [`State::may_hide`]. Nothing is published.
     pub fn may_hide(&mut self, key: Key) -> Result<(), Refusal>
         ensures readied { IfOk result (λ _.
             IsReadied self.old.log self.new.log (hide_cause self.old.log.tree key) key) }
@@ -219,9 +221,9 @@ impl LiveTree {
         self.state.may_hide(key)
     }
 
-    /// As [`State::hide`].
+    /// Hides a file like [`State::hide`], and withdraws its name from look-ups.
     ///
-    /// Condition: [`LiveTree::may_hide`] made the tree ready for this key, and nothing changed since.
+    /// Condition: [`LiveTree::may_hide`] made the tree ready for this key, and nothing has changed since.
     pub fn hide(&mut self, key: Key)
         requires ready { self.old.log.ready ≡ Some key }
         ensures accepted { IsAccepted self.old.log self.new.log (hide_cause self.old.log.tree key) (Hide key) }
@@ -231,7 +233,7 @@ impl LiveTree {
         self.writer = publish_one(&self.looks, self.writer.take(), &self.state, key);
     }
 
-    /// As [`State::show`].
+    /// Shows a hidden file again like [`State::show`], and publishes the file if it is live.
     pub fn show(&mut self, key: Key) -> bool
         ensures was_hidden { result ≡ hidden_in self.old.log.tree key }
         ensures accepted { MatchBool result
@@ -246,7 +248,7 @@ impl LiveTree {
         shown
     }
 
-    /// As [`State::compact`].
+    /// Compacts the stored commands like [`State::compact`]. Nothing is published.
     pub fn compact(&mut self) -> Result<(), Refusal>
         ensures compacted { IfOk result (λ _. IsCompacted self.old.log self.new.log) }
         ensures untold { self.new.links ≡ self.old.links }

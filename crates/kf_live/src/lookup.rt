@@ -1,4 +1,4 @@
-//! Looking names up beside the tree's owner.
+//! Looking names up while the tree's owner changes the tree.
 ghost use Rattle.std.specs.Prelude.{◌≡◌, true, Some, IfOk, IfErr, IfSome};
 ghost use Rattle.kf_core.specs.declared.refusal.Refusal.TheVariants as refusal_of;
 ghost use Rattle.kf_looks.specs.Links.{IsLater};
@@ -11,9 +11,9 @@ use kf_looks::{FoundAt, LookupTable};
 use std::marker::Model;
 use std::sync::Arc;
 
-/// A reader that looks names up while the tree's owner changes it: without a lock, and without waiting.
-/// It keeps the words, so it may outlive the tree; each thread has its own. Contracts see the tree's root,
-/// and what the looker has seen.
+/// A reader that looks names up while the tree's owner changes the tree, without a lock and without waiting.
+/// It keeps the words, so it may outlive the tree. Each thread has its own. Contracts see the tree's root,
+/// the number of slots with words, and what the looker has seen.
 #[derive(Drop)]
 pub struct Lookup {
     pub(crate) looks: Arc<LookupTable>,
@@ -34,18 +34,19 @@ impl Model for Lookup {
 }
 
 impl Lookup {
-    /// For how many slots there are words: nodes of higher slots are found only in the tree.
+    /// How many slots have words. Nodes in higher slots are found only in the tree.
     pub fn slots(&self) -> u64
         ensures known { result ≡ self.now.slots }
     {
         self.looks.slots
     }
 
-    /// The node to which a path leads among the live nodes: as it was at one moment, after all changes that
-    /// this looker has seen. It takes no lock, writes nothing and waits for nobody.
+    /// The live node to which a path leads, as it was at one moment, after all changes that this looker had
+    /// seen before. It takes no lock, writes nothing, and waits for nobody.
     ///
-    /// None is no refusal: ask the tree itself. A name is longer than 24 bytes or is not there, the words
-    /// have no line for its node, the path has another form, or a change came during each try.
+    /// None is not a refusal: ask the tree itself. None has one of these causes: a name is longer than 24
+    /// bytes or is not there; the words have no line for its node; the path has another form; or a change
+    /// came during each try.
     pub fn look(&mut self, path: &[u8]) -> Option<FoundAt>
         ensures root { self.new.root ≡ self.old.root }
         ensures slots { self.new.slots ≡ self.old.slots }
@@ -58,10 +59,11 @@ impl Lookup {
         self.looks.look(&mut self.eye, self.root, path)
     }
 
-    /// Whether what was found still stands, in one load. Then it is true after all changes that this looker
-    /// has seen now.
+    /// Returns, after one load, whether what was found still stands. If so, it stands after all changes that
+    /// this looker has seen by then. If not, something was changed since, perhaps another name.
     ///
-    /// Condition: it is the last sight of this looker's `look`, maybe after calls of `again`.
+    /// Condition: `sight` is what the last `look` of this looker returned, for this path. Calls of `again`
+    /// may have come after that.
     pub fn again(&mut self, sight: &FoundAt, path: &[u8]) -> bool
         requires stands { Stands self.old.view sight.now.version
             (λ links. led links self.old.root path.now ≡ Some sight.now.found) }
@@ -76,9 +78,9 @@ impl Lookup {
         self.looks.again(&mut self.eye, sight, self.root, path)
     }
 
-    /// Another looker, for another thread, which has seen what this one has.
+    /// Another looker, for another thread. It has seen what this one has seen.
     ///
-    /// Refusal: NoMemory, if the words may have no further owner.
+    /// Refusal: NoMemory, if the words cannot have another owner.
     pub fn another(&mut self) -> Result<Lookup, Refusal>
         ensures root { IfOk result (λ looker. looker.root ≡ self.old.root) }
         ensures slots { IfOk result (λ looker. looker.slots ≡ self.old.slots) }

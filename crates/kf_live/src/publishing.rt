@@ -1,4 +1,4 @@
-//! Publishing what became of nodes. Without words nothing is published.
+//! Publishes how nodes have changed. If no slot has words, nothing is published.
 ghost use Rattle.std.specs.Prelude.{◌≡◌, ◌<◌, ◌∷◌, [], IfSome};
 ghost use Rattle.kf_core.specs.Tree.{Tree};
 ghost use Rattle.kf_looks.specs.Lines.{bytes_in};
@@ -12,10 +12,11 @@ use kf_core::Key;
 use kf_looks::{LookupTable, Section, Writer};
 use kf_tree::State;
 
-/// Publishes what the tree now says of each of these nodes, one after the other: look-ups wait for one of
-/// them at most.
+/// Publishes what the tree now says about each of these nodes, one after the other. So each change that a
+/// look-up meets is that of one node.
 ///
-/// Condition: what the words say already is right, and lacks only names.
+/// Condition: except about these nodes, the words say what the tree says; and whatever path they lead along,
+/// they lead to what is live in the tree.
 pub(crate) fn publish(
     looks: &LookupTable,
     writer: Option<Writer>,
@@ -36,7 +37,7 @@ pub(crate) fn publish(
     Some(tell_each(looks, writer, state, keys))
 }
 
-/// Publishes what the tree now says of one node.
+/// Publishes what the tree now says about one node.
 pub(crate) fn publish_one(
     looks: &LookupTable,
     writer: Option<Writer>,
@@ -56,7 +57,7 @@ pub(crate) fn publish_one(
     Some(tell_one(looks, writer, state, key))
 }
 
-/// The place of a node before it is moved. Without words it is not needed.
+/// The place of a node before it is moved. If no slot has words, the place is not needed.
 pub(crate) fn place_before(looks: &LookupTable, state: &State, key: Key) -> Option<Spot>
     ensures stood { 0 < looks.now.slots → Stood state.now.tree key result }
 {
@@ -66,8 +67,9 @@ pub(crate) fn place_before(looks: &LookupTable, state: &State, key: Key) -> Opti
     place_of(state, key)
 }
 
-/// The place in which the words may still have a doomed node before it is unlinked: under its short name, if
-/// its directory is doomed too. A doom takes away only the name of its top, and no path leads below that.
+/// The place in which the words may still have a doomed node that is about to be unlinked. There is one if
+/// its directory is doomed too and it has a short name there. (A doom withdraws only the name of its top, and
+/// no path leads below that.)
 pub(crate) fn place_left(looks: &LookupTable, state: &State, key: Key) -> Option<Spot>
     ensures left { 0 < looks.now.slots → IsLeftAt state.now.tree key result }
 {
@@ -77,7 +79,7 @@ pub(crate) fn place_left(looks: &LookupTable, state: &State, key: Key) -> Option
     place_of(state, key)
 }
 
-/// Takes a name away from the node that stood under it.
+/// Withdraws a name from the node that stood under it.
 fn withdraw(looks: &LookupTable, section: Section, was: Option<Spot>, key: Key) -> Section
     requires table { section.seat.table_id ≡ looks.now.table.shared.table_id }
     requires of_slot { IfSome was
@@ -91,8 +93,8 @@ fn withdraw(looks: &LookupTable, section: Section, was: Option<Spot>, key: Key) 
     }
 }
 
-/// Publishes that a node left its former place, and its place in the tree now: both in one change, so that
-/// no look-up finds neither.
+/// Publishes that a node has left its old place, and that it is now in its new place. Both are one change, so
+/// no look-up can come between the two.
 pub(crate) fn publish_move(
     looks: &LookupTable,
     writer: Option<Writer>,
@@ -118,7 +120,7 @@ pub(crate) fn publish_move(
     }
 }
 
-/// Publishes that a doomed node left the tree: if the words may still have it, its name is taken away.
+/// Publishes that a doomed node has left the tree. If the words may still have its name, it is withdrawn.
 pub(crate) fn publish_gone(
     looks: &LookupTable,
     writer: Option<Writer>,

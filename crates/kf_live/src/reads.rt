@@ -1,4 +1,4 @@
-//! What a live tree returns as its [`State`] does, changing nothing.
+//! Calls that change nothing, and return what the same calls on a [`State`] return.
 ghost use Rattle.std.specs.Prelude.{◌≡◌, IfOk, IfErr, MatchResult, None, Some, true};
 ghost use Rattle.kf_core.specs.PostOrder.{IsPostOrder};
 ghost use Rattle.kf_core.specs.Tree.{is_linked};
@@ -10,7 +10,7 @@ use crate::live_tree::LiveTree;
 use kf_core::{Key, Node, Refusal};
 
 impl LiveTree {
-    /// As [`State::root`].
+    /// The root's key, as [`State::root`] returns it.
     pub fn root(&self) -> Key
         ensures known { result ≡ self.now.log.root }
         ensures kept { IsKept self.now.log }
@@ -18,14 +18,14 @@ impl LiveTree {
         self.state.root()
     }
 
-    /// As [`State::create_fault`].
+    /// Why a creation would be refused now, NoSpace and NoMemory aside, as [`State::create_fault`] says it.
     pub fn create_fault(&self, parent: Key, name: &[u8], node: Node) -> Option<Refusal>
         ensures first { result ≡ create_fault self.now.log.tree self.now.log.root parent name.now node }
     {
         self.state.create_fault(parent, name, node)
     }
 
-    /// As [`State::may_doom`].
+    /// Whether a doom would be refused now, lack of memory aside, as [`State::may_doom`] says it.
     pub fn may_doom(&self, key: Key) -> Result<(), Refusal>
         ensures checked { MatchResult result
             (λ _. doom_cause self.now.log.tree self.now.log.root key ≡ None)
@@ -35,7 +35,7 @@ impl LiveTree {
         self.state.may_doom(key)
     }
 
-    /// As [`State::may_unlink`].
+    /// What [`LiveTree::unlink`] would return now, as [`State::may_unlink`] says it.
     pub fn may_unlink(&self, key: Key) -> Result<bool, Refusal>
         ensures linked { IfOk result (λ linked. is_linked self.now.log.tree key ≡ linked) }
         ensures no_cause { IfOk result (λ linked. linked ≡ true → unlink_cause self.now.log.tree key ≡ None) }
@@ -45,7 +45,7 @@ impl LiveTree {
         self.state.may_unlink(key)
     }
 
-    /// As [`State::post_order`].
+    /// The keys of a linked node's subtree in post-order, as [`State::post_order`] returns them.
     pub fn post_order(&self, key: Key) -> Result<Vec<Key>, Refusal>
         ensures linked { IfOk result (λ _. linked_cause self.now.log.tree key ≡ None) }
         ensures ordered { IfOk result (λ keys. IsPostOrder self.now.log.tree key keys.items) }

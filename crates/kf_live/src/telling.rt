@@ -1,4 +1,4 @@
-//! What the words are to say of a node, and writing it.
+//! What the words must say about a node, and the functions that write it.
 ghost use Rattle.std.specs.Prelude.{◌≡◌, ◌∷◌, List, Some, None, IfSome, IfNone, false};
 ghost use Rattle.kf_core.specs.declared.key.Key.{Key};
 ghost use Rattle.kf_core.specs.declared.records.Record.{Record};
@@ -15,7 +15,7 @@ use kf_table::is_live;
 use kf_tree::State;
 use std::hint::spin_loop;
 
-/// The place of a node, and what look-ups are to find there: none if it is not live.
+/// The place of a node, and what look-ups must find there: nothing if the node is not live.
 #[derive(Clone, Copy)]
 pub struct Spot {
     pub dir: Key,
@@ -63,8 +63,8 @@ pub(crate) fn is_in_doomed(state: &State, key: Key) -> bool
     }
 }
 
-/// Gives a name its child, unless the child's line says so already. What it says already is not written
-/// again, as when a live node is activated once more.
+/// Gives a name its child, unless the child's line says so already. So nothing is written if, for example, a
+/// live node is activated once more.
 fn give_once(looks: &LookupTable, section: Section, spot: &Spot, child: Found) -> Section
     requires table { section.seat.table_id ≡ looks.now.table.shared.table_id }
     requires of_slot { IsOfSlot (links_of section.seat) spot.now.dir (bytes_in spot.now.name) child.key.slot }
@@ -79,7 +79,7 @@ fn give_once(looks: &LookupTable, section: Section, spot: &Spot, child: Found) -
     looks.give(section, spot.dir, &spot.name, child)
 }
 
-/// Writes what the tree now says of a node, which stands there.
+/// Writes what the tree now says about a node, which stands in this place.
 pub(crate) fn tell(
     looks: &LookupTable,
     section: Section,
@@ -105,7 +105,7 @@ pub(crate) fn tell(
     }
 }
 
-/// Publishes what the tree now says of a node, in one change for itself: look-ups wait only for that. The
+/// Publishes what the tree now says about a node, in a separate change, so that the change is short. The
 /// node's place is looked up before the change begins.
 pub(crate) fn tell_one(looks: &LookupTable, writer: Writer, state: &State, key: Key) -> Writer
     requires table { writer.seat.table_id ≡ looks.now.table.shared.table_id }
@@ -124,8 +124,8 @@ pub(crate) fn tell_one(looks: &LookupTable, writer: Writer, state: &State, key: 
     looks.publish(section)
 }
 
-/// Pauses after every sixteenth change, for about as long as a look-up takes: changes that follow each other
-/// at once leave look-ups no time between two of them.
+/// Pauses after every sixteenth change, for about as long as a look-up takes. Without the pauses, changes
+/// that follow each other at once would leave look-ups no time in between.
 fn pause_after(changes: u32) {
     if changes % 16 == 0 {
         for _ in 0..16 {
@@ -134,8 +134,8 @@ fn pause_after(changes: u32) {
     }
 }
 
-/// Publishes what the tree now says of each of these nodes, each in one change for itself. Between two of
-/// them the links are sound: a path that they lead along leads in the tree to the same live node.
+/// Publishes what the tree now says about each of these nodes, each in a separate change. Between two
+/// changes the links are sound: a path that they lead along leads in the tree to the same live node.
 pub(crate) fn tell_each(looks: &LookupTable, writer: Writer, state: &State, keys: &[Key]) -> Writer
     requires table { writer.seat.table_id ≡ looks.now.table.shared.table_id }
     requires says { SayBut keys.now (links_of writer.seat) state.now.tree }

@@ -1,4 +1,4 @@
--- What the tests keep of the links that they make.
+-- What the tests prove about the links that they make.
 use Rattle.std.specs.Prelude.{◌≡◌, ℕ, ◌≤◌, List, None}
 use Rattle.kf_core.specs.declared.key.Key.{Key}
 use Rattle.kf_looks.specs.declared.view.Link.{Link}

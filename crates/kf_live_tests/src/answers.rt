@@ -1,4 +1,4 @@
-//! How each test ends: it has the place of its first wrong result, and there is none.
+//! How a test ends: it has searched for the first wrong result, and must have found none.
 
 use kf_core::Refusal;
 use std::process::Abort;

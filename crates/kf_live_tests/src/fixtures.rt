@@ -1,4 +1,4 @@
-//! What the tests of look-ups build on: each helper stops the test if its call does not return what is asked.
+//! Helpers of the look-up tests. Each stops the test if its call does not return what the test needs.
 ghost use Rattle.std.specs.Prelude.{◌≡◌, ◌<◌, []};
 ghost use Rattle.kf_looks.specs.Writing.{links_of};
 ghost use Rattle.kf_live_tests.specs.Chains.{NoneFrom};
@@ -27,7 +27,7 @@ pub(crate) fn key(slot: u32) -> Key
     }
 }
 
-/// Words for that many slots, with no name.
+/// Words for this many slots, without any name.
 pub(crate) fn made<R: Abort>(rt: &R, alloc: Global, slots: u32) -> (LookupTable, Writer)
     ensures table { result.1.seat.table_id ≡ result.0.table.shared.table_id }
     ensures empty { links_of result.1.seat ≡ [] }
@@ -46,7 +46,8 @@ pub(crate) fn named<R: Abort>(rt: &R, bytes: &[u8]) -> ShortName {
     }
 }
 
-/// Each slot below `count` is the directory of the next, which has this name there and is this node.
+/// Makes a chain: each slot below `count` is the directory of the next slot, which has this name there and is
+/// this node.
 pub(crate) fn chain<R: Abort>(
     rt: &R,
     looks: &LookupTable,
@@ -75,7 +76,7 @@ pub(crate) fn chain<R: Abort>(
     writer
 }
 
-/// What a look-up finds.
+/// What a look-up of this path finds.
 pub(crate) fn found<R: Abort>(
     rt: &R,
     looks: &LookupTable,

@@ -1,5 +1,6 @@
-//! The tests of what `kf_live` stands on (`kf_index`, `kf_tree` and `kf_looks`), over their public calls:
-//! proved over these crates, and not with them. (Those of `kf_live` itself are in `kf_shared_tests`.)
+//! Tests of the crates that `kf_live` builds on (`kf_index`, `kf_tree` and `kf_looks`). They use only the
+//! public calls of these crates, and are proved apart from them. (The tests of `kf_live` itself are in
+//! `kf_shared_tests`.)
 #![tactic(auto)]
 
 #[cfg(test)]

@@ -1,5 +1,6 @@
-//! That look-ups find names of each length, in words that are full, and by deep paths. No clause says that a
-//! look-up finds its node. (That it does so beside a tree, as commands come, is shown by `kf_shared_tests`.)
+//! Tests that look-ups find names of 1 to 24 bytes, in words that are full, and along deep paths. No clause
+//! says that a look-up finds its node. (`kf_shared_tests` tests that it does so while commands change a
+//! tree.)
 use crate::fixtures::{FILE, chain, found, key, made, named};
 use kf_core::{Key, Node};
 use std::alloc::Global;
@@ -10,7 +11,7 @@ const TARGET: Key = Key {
     generation: 1,
 };
 
-/// Paths of one name, whose words differ in number, and what stands there.
+/// Paths of one name, and what stands there. The names take one, two or three words.
 const NAMES: [(&[u8], Node); 5] = [
     (b"/a", FILE),
     (b"/abcdefgh", Node::Dir),
@@ -19,7 +20,7 @@ const NAMES: [(&[u8], Node); 5] = [
     (b"/abcdefghijklmnopqrstuvwx", FILE),
 ];
 
-/// A name of this path's length is found.
+/// Asserts that a look-up finds the node at a path of one name.
 fn one_name_is_found<R: Abort>(rt: &R, alloc: Global, path: &[u8], node: Node) {
     assert!(rt; 1 <= path.len());
     let name = named(rt, &path[1..]);
@@ -37,7 +38,8 @@ fn names_of_1_to_24_bytes_are_found(rt: HostRuntime) {
     }
 }
 
-/// How many of `count` names are found, each in another directory, in words for just as many slots.
+/// Returns how many of `count` names are found. Each name is in a different directory, and there are words
+/// only for the slots in use.
 fn found_in_full<R: Abort>(rt: &R, alloc: Global, count: u32) -> u32 {
     assert!(rt; count < 1048576);
     let (looks, writer) = made(rt, alloc, count + 1);

@@ -1,5 +1,5 @@
-//! The memory of an index after each of many changes. No clause says that it follows the length if memory
-//! is there.
+//! Tests how much memory an index has after each of many changes. No clause says that this grows and shrinks
+//! with the length of the index if requests for memory succeed.
 
 use crate::answers::all_right;
 use kf_core::{Key, Refusal};
@@ -8,7 +8,7 @@ use std::alloc::Global;
 
 const NAMES: u32 = 1000;
 
-/// So many chunks such an index has at most: a full one is split in two of 254 entries.
+/// The most chunks that such an index has: a full chunk is split into two of 254 entries.
 const CHUNKS: usize = 3;
 
 const DIGITS: [u8; 16] = *b"0123456789abcdef";
@@ -20,7 +20,7 @@ fn key(slot: u32) -> Key {
     }
 }
 
-/// A name of a number below a thousand, which stands anywhere among those of the numbers before it.
+/// The name of a number below 1,000. It may stand anywhere among the names of the numbers before it.
 fn name_of(number: u32) -> [u8; 3] {
     let place = number % NAMES * 617 % NAMES;
     [
@@ -38,13 +38,14 @@ fn insert(alloc: Global, index: &mut Index, number: u32) -> Result<(), Refusal> 
     index.insert(Name::new(alloc, &name_of(number))?, key(number))
 }
 
-/// Whether there is memory for some four times the entries at most, in each chunk.
+/// Whether there is room for at most four times the entries, and for three more in each chunk.
 fn is_fitting(index: &Index) -> bool {
     let len = index.len();
     len <= NAMES as usize && index.room() <= 4 * len + 3 * CHUNKS
 }
 
-/// All names come, and all but the first go. The first number at which the memory does not fit them.
+/// Adds all names, and removes all except the first. Returns the number of the first name after which the
+/// memory does not fit the entries, if there is one.
 fn first_wrong(alloc: Global) -> Result<Option<usize>, Refusal> {
     let mut index = Index::new(alloc);
     for number in 0..NAMES {

@@ -1,6 +1,6 @@
-//! The calls of a tree that no script makes in this form, with results known from outside. (What scripts show
-//! of the tree stands in tests/scripts/tree.txt and tests/program/sizes.py.)
-//! Most tests are lists of steps: the calls of a step are proved once, however many steps there are.
+//! Tests calls on a tree that no script makes in this form, against results that are known independently.
+//! (What scripts can show of the tree is tested by tests/scripts/tree.txt and tests/program/sizes.py.)
+//! Most tests are lists of steps, so the calls of a step are proved once, however many steps there are.
 
 mod compaction_tests;
 mod hiding_tests;

@@ -1,4 +1,4 @@
--- The steps of each seat, as the table asks for them, and the opening.
+-- The table allows each step of each seat, and its opening meets the rule.
 use Rattle.std.proofs.Common.{◌≡◌, ◌≢◌, ℕ, zero, suc, ◌+◌, ◌-◌, ◌*◌, ◌/◌, ◌%◌, ◌<◌, ◌≤◌, List, [], ◌∷◌, ◌++◌, length, length-set, set, get_or, replicate, Some, None, refl, sym, ap, ◌∙◌, subst, arith, get_or-set_same, get_or-set_other, ⊎_elim, append_assoc, append-nil}
 use Rattle.std.proofs.lemmas.List.{get_or-replicate, length-replicate}
 use lib.Seq.{set-get_or}
@@ -20,11 +20,11 @@ use Rattle.kf_looks.specs.Rule.{Table, Knows, IsPlan, Kept, opened, plan_of, All
 use Rattle.kf_looks.specs.Steps.{Seated, view, grown, MakesSeat, MakesBegin, MakesPeek, MakesCheck, MakesRecall, MakesMove, MakesPut, MakesEntry, moved, put, entered, told, like}
 use Rattle.kf_looks.specs.Writing.{IsWriter}
 
--- what is kept of each seat
+-- what the rule says about each seat
 abbrev Fits : ℕ → ℕ → List ℕ → List Link → ℕ → LookView → Type 0
 Fits slots version draft links seat v = (v.slots ≤ slots) × Knows version draft links seat v.role × IsLater links v.seen
 
--- what holds of a seat's new view and of all others holds of all views after its step
+-- what is true of a seat's new view and of all other views is true of all views after the seat's step
 seats_after : (K : ℕ → LookView → Type 0) (views : List LookView) (me : ℕ) (w : LookView) → K me w
     → ((j : ℕ) (v : LookView) → j ≢ me → get_elem? views j ≡ some v → K j v)
     → (j : ℕ) (v : LookView) → get_elem? (set views me w) j ≡ some v → K j v
@@ -47,7 +47,7 @@ others_know v v' d d' l l' j more same other (Reading at reads) k = let a : at �
 )
 others_know v v' d d' l l' j more same other (Writing plan) k = absurd (other k.1)
 
--- a step that changes no word
+-- a step that changes no word keeps the rule
 unmoved : (slots : ℕ) (t : Table) (r : Kept slots t) (i me : ℕ) (carried : List (ℕ × Unit {0})) (w : LookView)
     → Fits slots r.version r.draft r.links me w
     → Kept slots (stepped t i (get_or t.words i 0) me carried w keeps)
@@ -65,11 +65,11 @@ unmoved slots t r i me carried w mine =
       seats = seats_after (λ j v. Fits slots r.version r.draft r.links j v) t.views me w mine (λ j v _. r.seats j v);
     }
 
--- what is true of all slots is true of fewer
+-- what is true for all slots is true for fewer
 says_fewer : (few slots : ℕ) (draft : List ℕ) (links : List Link) → few ≤ slots → SaysTrue slots draft links → SaysTrue few draft links
 says_fewer few slots draft links le says line inside = says line (omega arith)
 
--- a new seat
+-- a new seat keeps the rule
 seated : (slots : ℕ) (t : Table) (r : Kept slots t) (w : LookView) → w.slots ≤ slots → w.role ≡ Idle → IsLater r.links w.seen
     → Kept slots (record { words = t.words; homes = t.homes; views = t.views ++ w ∷ [] })
 seated slots t r w here idle later = record {
@@ -100,7 +100,7 @@ begin_allowed slots count id me t r _ at _ = let x : ℕ = get_or t.words 0 0 in
     (w, keeps, tt, unmoved slots t r 0 id me.1 w (mine.0, (even, (omega arith), λ _. tt), mine.2), ((refl, refl, λ _. refl), refl)))
     (λ odd. let w : LookView = view me.0.slots Idle me.0.seen in (w, keeps, tt, unmoved slots t r 0 id me.1 w (mine.0, tt, mine.2), ((refl, refl, λ even. absurd (odd even)), refl)))
 
--- what a seat knows after one read more
+-- what a seat knows after one more read
 grown_knows : (slots : ℕ) (t : Table) (r : Kept slots t) (id i : ℕ) → i < words_for slots → (role : Role) → Knows r.version r.draft r.links id role
     → Knows r.version r.draft r.links id (grown i (get_or t.words (i + lines_at) 0) role)
 grown_knows slots t r id i inside Idle k = tt
@@ -137,7 +137,7 @@ check_allowed slots count id me t r _ at _ = let mine = r.seats id me.0 at in le
 
 -- ---- the writer
 
--- the plan of a writer's seat
+-- a seat that writes is the first, and its plan is what the rule says
 plan_kept : (v : ℕ) (d : List ℕ) (l : List Link) (id : ℕ) (role : Role) → role ≡ Writing (plan_of role) → Knows v d l id role → IsPlan v d l (plan_of role) × (id ≡ 0)
 plan_kept v d l id role writes k = subst (Knows v d l id) writes k
 
@@ -152,7 +152,7 @@ recall_allowed slots count id me i inside writes t r _ at _ = let mine = r.seats
       (refl, r.draft_is i inside ∙ (ap (λ (d : List ℕ). get_or d i 0) (sym k.0.draft_is) ∙ ap (λ (z : ℕ). get_or (plan_of me.0.role).draft z 0) back)),
     )
 
--- the writer makes the next version
+-- the writer stores the next version
 pub move_allowed : (slots count id : ℕ) (me : Seated) (v : ℕ) → IsWriter me.0 → v ≡ (plan_of me.0.role).version + 1
     → (v % 2 ≡ 0 → SaysTrue slots (plan_of me.0.role).draft (plan_of me.0.role).links)
     → Allows (Kept slots) count id me 0 (λ _. v) (λ _. MakesMove (step count 0 v 0 none) me v)
@@ -247,7 +247,7 @@ tell_allowed slots id v writes t r at = let mine = r.seats id v at in let k = pl
     subst (λ (l : List LookView). Kept slots (record { words = t.words; homes = t.homes; views = l ++ told v ∷ [] })) (sym (set_again t.views id v at))
     (seated slots t r (told v) mine.0 refl ([], all))
 
--- so does one that has seen what another reader has
+-- a new reader that has seen what another seat has seen keeps the rule, too
 pub copy_allowed : (slots id : ℕ) (v : LookView) → Splits (Kept slots) id v v (like v)
 copy_allowed slots id v t r at = let mine = r.seats id v at in
     subst (λ (l : List LookView). Kept slots (record { words = t.words; homes = t.homes; views = l ++ like v ∷ [] })) (sym (set_again t.views id v at))
@@ -264,7 +264,7 @@ zeros zero i = refl
 zeros (suc n) zero = refl
 zeros (suc n) (suc i) = zeros n i
 
--- words of zeros have no child
+-- in words that are all 0, no line has a child
 pub none_told : (n line : ℕ) → (link_at (replicate n (let z : ℕ = 0 in z)) line).child ≡ None
 none_told n line = let shape : word_at (replicate n (let z : ℕ = 0 in z)) line 7 ≡ 0 = zeros n (8 * line + 7) in rw shape refl
 
@@ -274,7 +274,7 @@ none_some x e = cc
 pub zeros_say : (slots n : ℕ) (links : List Link) → SaysTrue slots (replicate n (let z : ℕ = 0 in z)) links
 zeros_say slots n links line inside child is = absurd (none_some child (sym (none_told n line) ∙ is))
 
--- the table opens with the rule
+-- the opening of the table meets the rule
 pub opening_kept : (slots version : ℕ) → Kept slots (opening (set (replicate (words_for slots + lines_at) (let z : ℕ = 0 in z)) 0 version) [] (opened slots version))
 opening_kept slots version = let n : ℕ = words_for slots in let z : ℕ = 0 in let none : List ℕ = replicate n z in let all : List ℕ = replicate (n + lines_at) z in
     let long : length all ≡ n + lines_at = length-replicate (n + lines_at) z in record {

@@ -1,4 +1,4 @@
--- The words and the links once a line was written.
+-- The words and the links after a line was written.
 use Rattle.std.proofs.Common.{◌≡◌, ◌≢◌, ℕ, ◌+◌, ◌*◌, ◌/◌, ◌<◌, ◌≤◌, List, [], ◌∷◌, Option, Some, length, length-set, set, sym, ap, ◌∙◌, subst, arith}
 use Rattle.atomic_table.specs.declared.shared.Seat.{Seat}
 use Rattle.kf_core.specs.declared.key.Key.{Key}
@@ -15,7 +15,7 @@ use Rattle.kf_looks.specs.Steps.{entered}
 use Rattle.kf_looks.specs.Writing.{plan, links_of, WritesTrue, Plans, Keeps, IsFilled, SameLines}
 use Rattle.kf_looks.proofs.Entering.{says_still, placed_still, others_filled, line_told, says_more, placed_more}
 
--- the line of a child: that of its slot, or, if the words have none for it, the one that nobody reads
+-- the line of a child is that of its slot, or, if the words have none for the slot, the one that nobody reads
 pub record IsLineOf (slots slot line : ℕ) : Type 0 where
   pub inside : line ≤ slots
   pub its : slot < slots → slot ≡ line
@@ -31,7 +31,7 @@ pub record Changed (slots slot line : ℕ) (a b m d : Seat (Unit {0}) LookView) 
   pub noting : Keeps m d
   pub noted : SameLines slots (plan m).draft (plan d).draft
 
--- the words of the link
+-- these are the words of the link
 pub record AreWordsOf (dir : Key) (name : List ℕ) (child : Option Found) (w0 w1 w2 w3 w4 w5 w6 w7 : ℕ) : Type 0 where
   pub dir_is : key_of w0 ≡ dir
   pub name_is : bytes_of w1 w2 w3 w4 ≡ name

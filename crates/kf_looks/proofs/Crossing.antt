@@ -1,4 +1,5 @@
--- Why a token may cross threads: it owns what its seat owns, and a `&` to it lends no part of the seat.
+-- Why a token may be sent to another thread and shared between threads: it owns what its seat owns, and a `&`
+-- to it lends no part of the seat.
 use denote.Builtin.{unit}
 use denote.Param.Send.{IsSend, IsSync, owning_send, part_keyless, sendable}
 use Rattle.atomic_table.specs.contracts.shared.Seat as seat

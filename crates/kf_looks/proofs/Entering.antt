@@ -1,4 +1,4 @@
--- What a line that was put makes of what the words say.
+-- What storing a line does to what the words say.
 use Rattle.std.proofs.Common.{◌≡◌, ◌≢◌, ℕ, ◌+◌, ◌*◌, ◌<◌, ◌≤◌, ◌⊎◌, inl, inr, List, [], ◌∷◌, length, set, get_or, sym, ap, ◌∙◌, subst, arith, Some, lit<, get_or-set_same, get_or-set_other}
 use mathlib.Core.Logic.{dite}
 use Rattle.std.proofs.lemmas.Bool.{cases_lt}
@@ -42,7 +42,7 @@ others_filled line value old mid words filled j other =
     get_or-set_other mid (8 * line + 7) (8 * j + k) value 0 (λ e. other (omega arith))
     ∙ filled.others_are (8 * j + k) (outside line j k few other))
 
--- the line has the words that were put
+-- the line has the words that were stored
 pub line_told : (line : ℕ) (old mid : List ℕ) (a b c d e f g h : ℕ) → IsFilled old mid (8 * line) (a ∷ b ∷ c ∷ d ∷ e ∷ f ∷ g ∷ []) 7
     → 8 * line + 7 < length mid
     → link_at (set mid (8 * line + 7) h) line ≡ record { dir = key_of a; name = bytes_of b c d e; child = child_by f g h }
@@ -57,7 +57,7 @@ line_told line old mid a b c d e f g h filled inside =
       child = child_by (put 5 (lit< tt) i) (put 6 (lit< tt) i) (last i);
     }
 
--- with the link that the line says, the words are true as before
+-- with the link of the new line added, what the words say is still true
 pub says_more : (slots line slot : ℕ) (old new : List ℕ) (links : List Link) → ((j : ℕ) → j ≢ line → link_at new j ≡ link_at old j)
     → IsOfSlot links (link_at new line).dir (link_at new line).name slot → (slot < slots → slot ≡ line)
     → SaysTrue slots old links → IsPlaced slots old → SaysTrue slots new (link_at new line ∷ links)
@@ -76,7 +76,7 @@ says_more slots line slot old new links others of_slot here says placed j inside
     subst (λ (x : Link). child_of (l ∷ links) x.dir x.name ≡ Some child) (sym e)
     (other_link links l (link_at old j).dir (link_at old j).name apart ∙ said))
 
--- and each child stands in its place
+-- each child is still in its place
 pub placed_more : (slots line : ℕ) (old new : List ℕ) → ((j : ℕ) → j ≢ line → link_at new j ≡ link_at old j)
     → (line < slots → (child : Found) → (link_at new line).child ≡ Some child → child.key.slot ≡ line)
     → IsPlaced slots old → IsPlaced slots new

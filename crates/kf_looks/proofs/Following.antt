@@ -1,4 +1,4 @@
--- What reads show of the words, and of links.
+-- What reads show about the words and the links.
 use Rattle.std.proofs.Common.{◌≡◌, ℕ, ◌<◌, List, ◌∷◌, get_or, sym, ap, ◌∙◌, Some, lit<}
 use Rattle.kf_core.specs.declared.key.Key.{Key}
 use Rattle.kf_looks.specs.declared.found.Found.{Found}
@@ -19,7 +19,7 @@ stays role Fact holds at reads is = (reads, is, λ content all. (all, holds cont
 pub one_read : (role : Role) (i found : ℕ) → Follows role (grown i found role) (λ content. get_or content i 0 ≡ found)
 one_read role i found at reads is = (read i found ∷ reads, ap (grown i found) is, λ content all. (all.1, all.0))
 
--- reads, and then more of them
+-- reads followed by more reads
 pub goes_on : (a b c : Role) (First Then All : List ℕ → Type 0) → ((content : List ℕ) → First content → Then content → All content)
     → Follows a b First → Follows b c Then → Follows a c All
 goes_on a b c First Then All both ab bc at reads is = let f = ab at reads is in let g = bc at f.0 f.1 in (
@@ -28,7 +28,7 @@ goes_on a b c First Then All both ab bc at reads is = let f = ab at reads is in 
   λ content all. let y = g.2 content all in let x = f.2 content y.0 in (x.0, both content x.1 y.1),
 )
 
--- what is known of the content, and what follows from it
+-- what follows from a fact that is known of the content is known, too
 pub tells_on : (a b : Role) (Fact Then : List ℕ → Type 0) → ((content : List ℕ) → Fact content → Then content) → Follows a b Fact → Follows a b Then
 tells_on a b Fact Then on ab at reads is = let f = ab at reads is in
     (f.0, f.1, λ content all. let x = f.2 content all in (x.0, on content x.1))
@@ -41,7 +41,7 @@ same_link f g same = let at = λ (k : ℕ) (few : k < 8). same k few in λ i. re
   child = child_by (at 5 (lit< tt) i) (at 6 (lit< tt) i) (at 7 (lit< tt) i);
 }
 
--- what a line that was read says of the links
+-- what a line that was read says about the links
 pub line_says : (slots line : ℕ) (dir : Key) (name : List ℕ) (child : Found) (content : List ℕ)
     → line < slots → link_at content line ≡ link dir name (Some child)
     → Tells slots (λ links. child_of links dir name ≡ Some child) content

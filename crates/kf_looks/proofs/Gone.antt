@@ -1,4 +1,4 @@
--- Keys that no name leads to any more.
+-- Keys to which no name leads any longer.
 use Rattle.std.proofs.Common.{◌≡◌, ◌≢◌, ℕ, true, false, List, [], ◌∷◌, ◌++◌, Some, None, refl, sym, ◌∙◌, subst, cond}
 use Rattle.std.specs.Option.{option_and_then}
 use Rattle.kf_core.specs.declared.key.Key.{Key}
@@ -21,7 +21,7 @@ no e = cc
 abbrev IsGone : List Link → Key → Type 0
 IsGone links key = (d : Key) (n : List ℕ) (child : Found) → child_of links d n ≡ Some child → child.key ≢ key
 
--- its one name was taken away
+-- after its only name was taken away, no name leads to a key
 gone_once_taken : (older : List Link) (dir : Key) (name : List ℕ) (key : Key) → OnlyAt older dir name key → IsGone (link dir name None ∷ older) key
 gone_once_taken older dir name key only d n child is =
     elim (is_of d n (link dir name None)) as (λ b. is_of d n (link dir name None) ≡ b → cond b None (child_of older d n) ≡ Some child → child.key ≢ key) [
@@ -30,7 +30,7 @@ gone_once_taken older dir name key only d n child is =
           absurd (no (sym (subst (λ (x : Key × List ℕ). is_of x.0 x.1 (link dir name None) ≡ true) (λ i. (sym at.0 i, sym at.1 i)) (of_own (link dir name None))) ∙ of))
     ] refl is
 
--- and no later link gives it one
+-- no name leads to the key after later links, if none of them gives it one
 gone_after : (newer links : List Link) (key : Key) → NeverGives newer key → IsGone links key → IsGone (newer ++ links) key
 gone_after [] links key never gone d n child is = gone d n child is
 gone_after (l ∷ newer) links key never gone d n child is =

@@ -1,4 +1,4 @@
--- What the tests of directories and names show, and what one more link makes of the links.
+-- What the tests of directories and names show, and what one more link does to the links.
 use Rattle.std.proofs.Common.{◌≡◌, ◌≢◌, ◌⊎◌, inl, inr, ℕ, true, false, List, ◌∷◌, refl, ap, ◌∙◌, cond}
 use Rattle.std.proofs.lemmas.Bool.{and_parts, and_from}
 use Rattle.std.proofs.lemmas.Bool.Decides.{eqb_tells}
@@ -12,7 +12,7 @@ use Rattle.kf_looks.specs.Links.{is_of, child_of}
 same_parts : (a b : Key) → a.slot ≡ b.slot → a.generation ≡ b.generation → a ≡ b
 same_parts a b s g = (let key : ℕ → ℕ → Key = λ s g. record { slot = s; generation = g } in ap (λ n. key n a.generation) s ∙ ap (key b.slot) g)
 
--- two keys are the same, or not
+-- the test of two keys says whether they are the same
 pub keys_tell : (a b : Key) → ((same_key a b ≡ true) × (a ≡ b)) ⊎ ((same_key a b ≡ false) × (a ≢ b))
 keys_tell a b = elim (eqb_tells a.slot b.slot) [
   | inl s ↦ (elim (eqb_tells a.generation b.generation) [
@@ -28,7 +28,7 @@ key_true a b h = elim (keys_tell a b) [ inl e ↦ e.1 | inr e ↦ absurd (cc (h,
 key_own : (a : Key) → same_key a a ≡ true
 key_own a = elim (keys_tell a a) [ inl e ↦ e.0 | inr e ↦ absurd (e.1 refl) ]
 
--- a link that is of a name in a directory has that directory and that name
+-- a link that passes the test for a directory and a name has that directory and that name
 pub of_tells : (dir : Key) (name : List ℕ) (l : Link) → is_of dir name l ≡ true → (l.dir ≡ dir) × (l.name ≡ name)
 of_tells dir name l e = let p = and_parts (same_key l.dir dir) (bytes_eq l.name name) e in
     (key_true l.dir dir p.0, (bytes_eq-Decides l.name name).0 p.1)
@@ -36,7 +36,7 @@ of_tells dir name l e = let p = and_parts (same_key l.dir dir) (bytes_eq l.name 
 pub of_own : (l : Link) → is_of l.dir l.name l ≡ true
 of_own l = and_from (same_key l.dir l.dir) (bytes_eq l.name l.name) (key_own l.dir) ((bytes_eq-Decides l.name l.name).1 refl)
 
--- the last link of a name is what it leads to
+-- a name leads to the child of its last link
 pub first_link : (links : List Link) (l : Link) → child_of (l ∷ links) l.dir l.name ≡ l.child
 first_link links l = rw (of_own l) refl
 

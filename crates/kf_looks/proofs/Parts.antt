@@ -14,7 +14,7 @@ none_of : (b : Bool) (n : ℕ) → None ≡ cond b (Some n) None → b ≡ false
 none_of true n e = absurd (cc)
 none_of false n e = refl
 
--- the first part, and the rest after it
+-- the parts of a text are the first part, and then the parts of the rest
 pub split_found : (p : ℕ → Bool) (xs : List ℕ) (at : ℕ) → Some at ≡ position p xs
     → slice_split p xs ≡ take at xs ∷ slice_split p (take (length xs - (at + 1)) (drop (at + 1) xs))
 split_found p xs at e =
@@ -23,7 +23,7 @@ split_found p xs at e =
     ∙ ap (λ k. take k xs ∷ slice_split p (drop (k + 1) xs)) same
     ∙ ap (λ l. take at xs ∷ slice_split p l) (sym (take_rest xs (at + 1)))
 
--- the whole is one part
+-- if no item passes the test, the whole is one part
 pub split_none : (p : ℕ → Bool) (xs : List ℕ) → None ≡ position p xs → slice_split p xs ≡ xs ∷ []
 split_none p xs e =
     let far : length xs ≤ position_or_len p xs = ltb-false _ _ (none_of _ (position_or_len p xs) e) in

@@ -1,4 +1,4 @@
--- What one step after another makes of a seat.
+-- What one step after another does to a seat.
 use Rattle.std.proofs.Common.{◌≡◌, ◌≢◌, ℕ, ◌+◌, ◌*◌, ◌%◌, ◌<◌, ◌≤◌, inl, inr, List, length, length-set, set, get_or, refl, sym, ap, ◌∙◌, subst, arith, get_or-set_same, get_or-set_other}
 use mathlib.Core.Logic.{dite}
 use native.Mathlib.Decide.{ℕ_discrete}
@@ -21,7 +21,7 @@ same_again a b c ab bc = record { table = bc.table ∙ ab.table; slots = bc.slot
 unread : (i x : ℕ) (p : Plan) (role : Role) → role ≡ Writing p → grown i x role ≡ role
 unread i x p role is = subst (λ (r : Role). grown i x r ≡ r) (sym is) refl
 
--- a load by the writer changes nothing of what it knows
+-- a load by the writer leaves what the writer knows as it was
 pub load_keeps : (a b : Seat (Unit {0}) LookView) (i x : ℕ) → IsWriter a.me.0 → IsSameSeat a b → b.me.0.role ≡ grown i x a.me.0.role
     → Keeps a b × ((plan b).draft ≡ (plan a).draft)
 load_keeps a b i x writes same read =
@@ -53,7 +53,7 @@ keeps_again a b c ab bc = record {
   links_are = bc.links_are ∙ ab.links_are;
 }
 
--- a word put
+-- the writer stores a word
 pub put_keeps : (a b : Seat (Unit {0}) LookView) (i x : ℕ) → Plans a b (put i x (plan a)) → Keeps a b × ((plan b).draft ≡ set (plan a).draft i x)
 put_keeps a b i x made = (
   record {
@@ -69,7 +69,7 @@ put_keeps a b i x made = (
 pub none_filled : (old words : List ℕ) (at : ℕ) → IsFilled old old at words 0
 none_filled old words at = record { long = refl; words_are = λ k few. absurd (omega (arith, few)); others_are = λ i out. refl }
 
--- one word more of those that are put
+-- one more of the words that are stored
 pub filled_more : (old new words : List ℕ) (at k x : ℕ) → x ≡ get_or words k 0 → at + k < length old
     → IsFilled old new at words k → IsFilled old (set new (at + k) x) at words (k + 1)
 filled_more old new words at k x is inside filled = let long = filled.long in record {
@@ -85,14 +85,14 @@ filled_more old new words at k x is inside filled = let long = filled.long in re
 pub draft_same : (slots : ℕ) (old new : List ℕ) → new ≡ old → SameLines slots old new
 draft_same slots old new is = record { long = ap length is; words_are = λ i inside. ap (λ (l : List ℕ). get_or l i 0) is }
 
--- a word put behind all lines
+-- storing a word behind all lines leaves the lines as they were
 pub hint_put : (slots at x : ℕ) (old new : List ℕ) → new ≡ set old at x → 8 * slots + 8 ≤ at → SameLines slots old new
 hint_put slots at x old new is behind = record {
   long = ap length is ∙ length-set old at x;
   words_are = λ i inside. ap (λ (l : List ℕ). get_or l i 0) is ∙ get_or-set_other old at i x 0 (λ e. omega arith);
 }
 
--- a version made
+-- after the next version is stored, the plan still says what is true
 pub moved_true : (a b : Seat (Unit {0}) LookView) (version : ℕ) → WritesTrue a.me.0 version → Plans a b (moved (plan a)) → WritesTrue b.me.0 (version + 1)
 moved_true a b version old made =
     let draft : (plan b).draft ≡ (plan a).draft = ap (λ (r : Role). (plan_of r).draft) made.role_is in
@@ -105,6 +105,6 @@ moved_true a b version old made =
       placed = subst (λ (x : ℕ × List ℕ). IsPlaced x.0 x.1) (λ i. (sym made.slots i, sym draft i)) old.placed;
     }
 
--- a version that is odd only at the end is even elsewhere
+-- a version that is odd only if it is the last is even if it is not the last
 pub even_unless : (version last : ℕ) → (version % 2 ≡ 1 → version ≡ last) → version ≢ last → version % 2 ≡ 0
 even_unless version last odd other = dite (ℕ_discrete (version % 2) 1) (λ e. absurd (other (odd e))) (λ e. omega arith)

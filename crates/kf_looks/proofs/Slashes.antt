@@ -12,12 +12,12 @@ unset : (b : Bool) (n m l : ℕ) → cond (not b) (1 + m) 0 ≡ suc l → (m ≡
 unset true n m l e f = absurd (omega arith)
 unset false n m l e f = omega (arith, f (omega arith))
 
--- if none passes, the mask is empty
+-- if no item passes the test, the mask is empty
 none_set : (p : ℕ → Bool) (xs : List ℕ) → position_or_len p xs ≡ length xs → mask_l (map p xs) ≡ 0
 none_set p [] e = refl
 none_set p (x ∷ xs) e = unset (p x) (mask_l (map p xs)) (position_or_len p xs) (length xs) e (none_set p xs)
 
--- if one passes among the first n, it is the first of all
+-- if an item among the first n passes the test, the lowest bit of the mask is at the first one that passes
 pub first_in_mask : (p : ℕ → Bool) (xs : List ℕ) (n : ℕ) → n ≤ 64 → n ≤ length xs → mask_l (map p (take n xs)) ≢ 0
     → Some (count_trailing_zeros 64 (mask_l (map p (take n xs)))) ≡ position p xs
 first_in_mask p xs n few long some =

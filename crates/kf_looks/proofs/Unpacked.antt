@@ -1,4 +1,4 @@
--- The bytes of a name, in numbers and back.
+-- The bytes of a name, packed into numbers and back.
 use Rattle.std.proofs.Common.{◌≡◌, ℕ, zero, suc, ◌+◌, ◌-◌, ◌*◌, ◌/◌, ◌%◌, ◌^◌, ◌<◌, ◌≤◌, List, [], ◌∷◌, ◌++◌, length, take, drop, get_or, refl, sym, ap, ◌∙◌, subst, arith, append-nil, add-one, add-zero}
 use Rattle.std.proofs.lemmas.List.{append_assoc, drop-drop}
 use Rattle.std.proofs.Math.Nat.{pow-le-pow_right, pow-suc, div-one, div-div-eq-div-mul, mul_comm}
@@ -7,7 +7,7 @@ use Rattle.std.proofs.lemmas.Nat.{pow-add}
 use Rattle.std.proofs.lemmas.Grind.{pow_more}
 use Rattle.kf_looks.specs.ShortNames.{bytes_before}
 
--- one byte more, behind the others
+-- one more byte, behind the others
 pub one_more : (count word byte : ℕ) (later : List ℕ) → byte < 256
     → bytes_before (count + 1) (word * 256 + byte) later ≡ bytes_before count word (byte ∷ later)
 one_more count word byte later small =
@@ -16,7 +16,7 @@ one_more count word byte later small =
     subst (λ (n : ℕ). bytes_before n (word * 256 + byte) later ≡ bytes_before count word (byte ∷ later)) (sym (add-one count))
     (rw (high, low) refl)
 
--- n bytes and one more stay below the next power
+-- a word of n bytes, and one more byte, stays below the next power of 256
 pub below_more : (count word byte : ℕ) → word < 256 ^ count → byte < 256 → word * 256 + byte < 256 ^ (count + 1)
 below_more count word byte below small =
     let next : 256 ^ (count + 1) ≡ 256 ^ count * 256 = pow_more 256 count in
@@ -28,7 +28,7 @@ pub room : (count word : ℕ) → count < 8 → word < 256 ^ count → word < 72
 room count word few below =
     let most : 256 ^ count ≤ 256 ^ 7 = pow-le-pow_right {n = 256} (omega arith) {i = count} {j = 7} (omega arith) in omega (arith, most, below)
 
--- one item more of a list
+-- one more item of a list
 take_next : (xs : List ℕ) (i : ℕ) (later : List ℕ) → i < length xs → take (suc i) xs ++ later ≡ take i xs ++ get_or xs i 0 ∷ later
 take_next [] i later inside = absurd (omega (arith, inside))
 take_next (x ∷ xs) zero later inside = refl
@@ -37,7 +37,7 @@ take_next (x ∷ xs) (suc i) later inside = ap (λ (l : List ℕ). x ∷ l) (tak
 pub take_more : (xs : List ℕ) (i : ℕ) (later : List ℕ) → i < length xs → take (i + 1) xs ++ later ≡ take i xs ++ get_or xs i 0 ∷ later
 take_more xs i later inside = ap (λ (n : ℕ). take n xs ++ later) (add-one i) ∙ take_next xs i later inside
 
--- the words of three parts have the bytes of all
+-- the words of three parts have the bytes of the whole name
 pub name_front : (xs : List ℕ) (count two first second third : ℕ) → 8 ≤ two → two ≤ count
     → ((later : List ℕ) → bytes_before 8 first later ≡ take 8 xs ++ later)
     → ((later : List ℕ) → bytes_before (two - 8) second later ≡ take (two - 8) (drop 8 xs) ++ later)
@@ -57,7 +57,7 @@ name_front xs count two first second third low high a b c =
     ∙ (ap (bytes_before 8 first) (b last ∙ both) ∙ (a (take (count - 8) (drop 8 xs))
     ∙ (sym (take-add 8 (count - 8) xs) ∙ ap (λ (n : ℕ). take n xs) all)))
 
--- the highest bytes of a word are those of the word without the others
+-- the highest bytes of a word are those of the word shifted down past the others
 highest : (count others word : ℕ) (later : List ℕ)
     → bytes_before (others + count) word later ≡ bytes_before count (word / 256 ^ others) (bytes_before others word later)
 highest count zero word later =
@@ -71,7 +71,7 @@ highest count (suc others) word later =
     ∙ (highest count others (word / 256) (word % 256 ∷ later)
     ∙ ap (λ (w : ℕ). bytes_before count w (bytes_before others (word / 256) (word % 256 ∷ later))) less)
 
--- bytes before others are bytes, and those
+-- the bytes of a word before others are the word's bytes followed by the others
 behind : (count word : ℕ) (later : List ℕ) → bytes_before count word later ≡ bytes_before count word [] ++ later
 behind zero word later = refl
 behind (suc count) word later =
@@ -83,7 +83,7 @@ so_many : (count word : ℕ) (later : List ℕ) → length (bytes_before count w
 so_many zero word later = omega arith
 so_many (suc count) word later = let more : length (word % 256 ∷ later) ≡ suc (length later) = refl in omega (arith, more, so_many count (word / 256) (word % 256 ∷ later))
 
--- eight bytes, and a word of the first of them
+-- a word of eight bytes, shifted down, has the first of them
 pub first_of_eight : (count word : ℕ) (eight : List ℕ) → count ≤ 8 → ((later : List ℕ) → bytes_before 8 word later ≡ eight ++ later)
     → (later : List ℕ) → bytes_before count (word / 256 ^ (8 - count)) later ≡ take count eight ++ later
 first_of_eight count word eight few all later =
@@ -96,7 +96,7 @@ first_of_eight count word eight few all later =
     let same : take count eight ≡ front = ap (take count) whole ∙ (ap (λ (n : ℕ). take n (front ++ rest)) (sym size) ∙ take-append_seam front rest) in
     behind count high later ∙ ap (λ (l : List ℕ). l ++ later) (sym same)
 
--- n bytes are eight times as many bits
+-- n bytes are 8 * n bits
 bits_of : (count : ℕ) → 2 ^ (8 * count) ≡ 256 ^ count
 bits_of zero = refl
 bits_of (suc count) =

@@ -1,5 +1,5 @@
--- What the words say behind the version: a line of eight words for each slot and one that nobody reads, then
--- the hints, which are never believed.
+-- What the words after the version say: there is a line of eight words for each slot, one more line that
+-- nobody reads, and then the hints, which are never trusted.
 use Rattle.std.specs.Prelude.{◌≡◌, ℕ, ◌+◌, ◌*◌, ◌<◌, List, Some, slice_index}
 use Rattle.kf_looks.specs.declared.found.Found.{Found}
 use Rattle.kf_looks.specs.declared.view.Link.{Link}
@@ -16,12 +16,13 @@ bytes_in name = bytes_of name.count name.first name.second name.third
 abbrev pub lines_at : ℕ
 lines_at = 6
 
--- how many words the slots have behind that: the lines, three hints a slot, and sixteen more hints
+-- how many words there are from there on, for this many slots: the lines, three hints for each slot, and
+-- sixteen more hints
 abbrev pub words_for : ℕ → ℕ
 words_for slots = 11 * slots + 24
 
--- the link that the eight words of a line say: the directory, how many bytes the name has, the bytes, the
--- child's key, its target or tag, and its shape
+-- the link that the eight words of a line say: the directory, how many bytes the name has, three words with
+-- these bytes, the child's key, its target or tag, and its shape
 abbrev pub link_by : (ℕ → ℕ) → Link
 link_by word = record {
   dir = key_of (word 0);
@@ -37,7 +38,7 @@ word_at content line k = slice_index content (8 * line + k)
 abbrev pub link_at : List ℕ → ℕ → Link
 link_at content line = link_by (word_at content line)
 
--- if a line has a child, the links say that the name has that child
+-- for each line that has a child, the links say that the line's name has that child
 abbrev pub SaysTrue : ℕ → List ℕ → List Link → Type 0
 SaysTrue slots content links = (line : ℕ) → line < slots → (child : Found)
     → (link_at content line).child ≡ Some child

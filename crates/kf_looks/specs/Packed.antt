@@ -5,12 +5,12 @@ use Rattle.kf_core.specs.declared.key.Node.{Node}
 use Rattle.kf_core.specs.declared.key.Node.TheVariants.{Dir, File, Link}
 use Rattle.kf_looks.specs.declared.found.Found.{Found}
 
--- a key's word: the slot is the lower half
+-- the key that a word holds: the lower half is the slot, the upper half the generation
 abbrev pub key_of : ℕ → Key
 key_of word = record { slot = word % 4294967296; generation = word / 4294967296 }
 
--- what a shape says a node is: 1 a directory, 2 a link, from 3 up a file, whose mode is that much above 3.
--- The other word is the target or the tag
+-- the node that a shape and another word say: shape 1 is a directory, 2 a link, and any other a file, whose
+-- mode is the shape minus 3 in 16 bits. The other word is the link's target or the file's tag
 abbrev pub node_of : ℕ → ℕ → Node
 node_of shape more = if shape == 1 then Dir else
     (if shape == 2 then Link (key_of more) else File ((shape - 3) % 65536) more)
@@ -19,7 +19,7 @@ node_of shape more = if shape == 1 then Dir else
 abbrev pub found_of : ℕ → ℕ → ℕ → Found
 found_of key more shape = record { key = key_of key; node = node_of shape more }
 
--- the child that three words say; none if the shape is 0
+-- the child that three words say; None if the shape is 0
 abbrev pub child_by : ℕ → ℕ → ℕ → Option Found
 child_by key more shape =
     if shape == 0 then None else Some (record { key = key_of key; node = node_of shape more })

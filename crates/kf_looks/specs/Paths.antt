@@ -7,6 +7,6 @@ use Rattle.kf_looks.specs.declared.found.Found.{Found}
 use Rattle.kf_looks.specs.declared.view.Link.{Link}
 use Rattle.kf_looks.specs.Links.{top, walked}
 
--- what a path leads to from a directory on; `/` leads to the directory itself
+-- what a path leads to from a directory; `/` leads to the directory itself
 abbrev pub led : List Link → Key → List ℕ → Option Found
 led links root path = option_and_then (walked links (top root)) (names_of path)

@@ -1,7 +1,8 @@
--- A name of at most 24 bytes as four numbers: how many bytes it has, and three words with eight bytes each.
+-- A name of at most 24 bytes as four numbers: how many bytes it has, and three words with up to eight bytes
+-- each.
 use Rattle.std.specs.Prelude.{ℕ, ◌-◌, ◌/◌, ◌%◌, zero, suc, List, [], ◌∷◌, min}
 
--- the last n bytes of a number, the last the lowest, before others
+-- the lowest n bytes of a number, the highest of them first, in front of other bytes
 abbrev pub bytes_before : ℕ → ℕ → List ℕ → List ℕ
 bytes_before zero word later = later
 bytes_before (suc count) word later = bytes_before count (word / 256) (word % 256 ∷ later)

@@ -1,4 +1,4 @@
--- What each step makes of the view of its seat.
+-- How each step changes the view of its seat.
 use Rattle.std.specs.Prelude.{◌≡◌, ℕ, ◌+◌, ◌-◌, ◌/◌, ◌%◌, List, [], ◌∷◌, slice_index, slice_set}
 use Rattle.atomic_table.specs.Table.{Me, Step}
 use Rattle.kf_looks.specs.declared.view.Link.{Link}
@@ -23,7 +23,7 @@ read word found = record { word = word; found = found }
 
 -- ---- readers
 
--- one read more
+-- one more read, if the seat is a reader
 abbrev pub grown : ℕ → ℕ → Role → Role
 grown word found Idle = Idle
 grown word found (Reading at reads) = Reading at (read word found ∷ reads)
@@ -32,7 +32,8 @@ grown word found (Writing plan) = Writing plan
 abbrev pub MakesSeat : Step (Unit {0}) → Seated → ℕ → Seated → Type 0
 MakesSeat st me found me' = me' ≡ (view me.0.slots Idle [], [])
 
--- an even version is the one that the seat reads
+-- the slots and the seen links are as before; if the version that was found is even, the seat reads at this
+-- version from then on
 abbrev pub Begun : ℕ → LookView → LookView → Type 0
 Begun found old new = (new.slots ≡ old.slots) × (new.seen ≡ old.seen)
     × (found % 2 ≡ 0 → new.role ≡ Reading found [])
@@ -44,8 +45,8 @@ abbrev pub MakesPeek : Step (Unit {0}) → Seated → ℕ → Seated → Type 0
 MakesPeek st me found me' =
     me' ≡ (view me.0.slots (grown (st.word - lines_at) found me.0.role) me.0.seen, me.1)
 
--- the links that are seen now are all that were seen, and maybe later ones. If the version is the one that
--- was found first, all reads stand in one content, which is true of these links
+-- the seat has now seen all links that it had seen, and maybe later ones. If the version is the one that was
+-- found first, one content has all the reads and is true of these links
 pub record Passed (found : ℕ) (old new : LookView) : Type 0 where
   pub slots_are : new.slots ≡ old.slots
   pub role_is : new.role ≡ old.role
@@ -64,19 +65,19 @@ moved plan = record plan { version = plan.version + 1 }
 abbrev pub put : ℕ → ℕ → Plan → Plan
 put word value plan = record plan { draft = slice_set plan.draft word value }
 
--- the last word of a line is put: the link that the line now says comes first
+-- the last word of a line is stored, and the link that the line now says is put in front of the links
 abbrev pub entered : ℕ → ℕ → Plan → Plan
 entered word value plan = record plan {
   draft = slice_set plan.draft word value;
   links = link_at (slice_set plan.draft word value) (word / 8) ∷ plan.links;
 }
 
--- a word behind the version is the one that the writer planned
+-- a load of one of the words after the version finds the one that the writer planned, and changes nothing
 abbrev pub MakesRecall : Step (Unit {0}) → Seated → ℕ → Seated → Type 0
 MakesRecall st me found me' =
     (me' ≡ me) × (found ≡ slice_index (plan_of me.0.role).draft (st.word - lines_at))
 
--- what the writer's step makes of its plan
+-- the step gives the writer this plan, and changes nothing else of its view
 abbrev pub Becomes : Plan → Seated → Seated → Type 0
 Becomes plan me me' = me' ≡ (view me.0.slots (Writing plan) me.0.seen, me.1)
 
@@ -89,10 +90,10 @@ MakesPut st me found me' = Becomes (put (st.word - lines_at) st.first (plan_of m
 abbrev pub MakesEntry : Step (Unit {0}) → Seated → ℕ → Seated → Type 0
 MakesEntry st me found me' = Becomes (entered (st.word - lines_at) st.first (plan_of me.0.role)) me me'
 
--- a new reader has seen all links that the writer has made
+-- the view of a new reader, which has seen all links that the writer has made
 abbrev pub told : LookView → LookView
 told v = view v.slots Idle (plan_of v.role).links
 
--- a new reader has seen what another has
+-- the view of a new reader, which has seen what another reader has
 abbrev pub like : LookView → LookView
 like v = view v.slots Idle v.seen

@@ -20,8 +20,8 @@ links_of seat = (plan seat).links
 abbrev pub IsWriter : LookView → Type 0
 IsWriter v = v.role ≡ Writing (plan_of v.role)
 
--- the view is the writer's, at this version. What the words say is true of all links, and each child stands
--- in the line of its slot
+-- the view is the writer's, at this version. The draft has all the words; what it says is true of all links,
+-- and each child is in the line of its slot
 pub record WritesTrue (v : LookView) (version : ℕ) : Type 0 where
   pub writes : IsWriter v
   pub version_is : (plan_of v.role).version ≡ version
@@ -29,19 +29,19 @@ pub record WritesTrue (v : LookView) (version : ℕ) : Type 0 where
   pub says : SaysTrue v.slots (plan_of v.role).draft (plan_of v.role).links
   pub placed : IsPlaced v.slots (plan_of v.role).draft
 
--- the seat is still that of the same table, of as many slots, and plans this
+-- the seat is still at the same table, with the same number of slots, and now has this plan
 pub record Plans (old new : Seat (Unit {0}) LookView) (next : Plan) : Type 0 where
   pub table : new.table_id ≡ old.table_id
   pub slots : new.me.0.slots ≡ old.me.0.slots
   pub role_is : new.me.0.role ≡ Writing next
 
--- the seat is still that of the same table, and knows the same
+-- the seat is still at the same table, and knows the same
 pub record IsSameWriter (old new : Seat (Unit {0}) LookView) : Type 0 where
   pub table : new.table_id ≡ old.table_id
   pub me : new.me ≡ old.me
 
--- the seat is still the writer's of the same table, of as many slots, at the same version and with the same
--- links
+-- the seat is still the writer's at the same table, with the same number of slots, at the same version and
+-- with the same links
 pub record Keeps (old new : Seat (Unit {0}) LookView) : Type 0 where
   pub table : new.table_id ≡ old.table_id
   pub slots : new.me.0.slots ≡ old.me.0.slots
@@ -49,7 +49,7 @@ pub record Keeps (old new : Seat (Unit {0}) LookView) : Type 0 where
   pub version_is : (plan new).version ≡ (plan old).version
   pub links_are : links_of new ≡ links_of old
 
--- the first n of these words were put from a place on, and all others are as before
+-- the first n of these words were stored from this place on, and all others are as before
 pub record IsFilled (old new : List ℕ) (at : ℕ) (words : List ℕ) (count : ℕ) : Type 0 where
   pub long : length new ≡ length old
   pub words_are : (k : ℕ) → k < count → slice_index new (at + k) ≡ slice_index words k

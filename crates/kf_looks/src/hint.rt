@@ -1,4 +1,5 @@
-//! Hints: in which line a name may stand. A hint is never believed: what the line itself says is compared.
+//! Hints, which say in which line a name may be. A hint is never trusted: the line itself is compared with
+//! the name.
 ghost use Rattle.std.specs.Prelude.{◌≡◌, ◌+◌, ◌*◌, ◌<◌, ◌≤◌, ⊤};
 ghost use Rattle.kf_looks.specs.Lines.{words_for};
 ghost use Rattle.kf_looks.specs.Reading.{IsSameSeat, Follows};
@@ -7,7 +8,7 @@ use crate::lookup_table::LookupTable;
 use crate::short_name::ShortName;
 use crate::table::LookSeat;
 
-/// How many hints one after another may be those of a name.
+/// How many consecutive hints may belong to a name.
 pub(crate) const WAYS: usize = 16;
 
 const HALF: u64 = 4294967296;
@@ -16,15 +17,15 @@ const BY_NAME: u64 = 11400714819323198485;
 
 const BY_WORD: u64 = 7046029254386353131;
 
-/// The hints of a name: the first word that may have it, behind all lines, and its tag, by which it is known
-/// there. A hint is its tag and, in the lower half, its line; 0 is none.
+/// The place of a name's hints: the number of their first word, which is after all lines, and the tag that
+/// marks them. A hint is a tag in the upper half of a word and a line in the lower half; 0 is no hint.
 #[derive(Clone, Copy)]
 pub(crate) struct Place {
     pub(crate) first: usize,
     pub(crate) tag: u64,
 }
 
-/// What the place of a name rests on, in whatever directory it stands.
+/// A hash of a name, from which its place is computed. It does not depend on the directory.
 #[inline(always)]
 fn name_hash(name: &ShortName) -> u64 {
     let last = name.third.wrapping_mul(BY_WORD).wrapping_add(name.second);
@@ -36,8 +37,9 @@ fn name_hash(name: &ShortName) -> u64 {
 }
 
 impl LookupTable {
-    /// The place of a name's hints, by the slot of its directory. A walk passes the line that the hint of the
-    /// directory named: so the processor loads the next hint before that line has come.
+    /// The place of a name's hints, computed from the name and the slot of its directory. For that slot, a
+    /// walk passes the line that the directory's own hint named. So the processor can load the next hint
+    /// before that line has arrived.
     #[inline(always)]
     pub(crate) fn place(&self, dir: u64, name: &ShortName) -> Place
         ensures first { 8 * self.now.slots + 8 ≤ result.first }
@@ -52,7 +54,7 @@ impl LookupTable {
         }
     }
 
-    /// The line of the first hint with the tag.
+    /// The line of the first hint that has the tag of this place.
     #[inline(always)]
     pub(crate) fn hinted(&self, seat: &mut LookSeat, place: Place) -> Option<usize>
         requires table { seat.old.table_id ≡ self.now.table.shared.table_id }

@@ -1,15 +1,16 @@
-//! Look-ups that take no lock and write no shared word: the node to which a path leads, as the words of one
-//! version say. The version is that of a seqlock.
+//! Look-ups that take no lock and write no shared word: they find the node to which a path leads in one
+//! version of the words. The version works as in a seqlock.
 //!
 //! - `LookupTable::new` makes words for a number of slots, and their one `Writer`. A change is a `Section`:
-//!   `start`, `give` and `take` for each name that came or went, `publish`. The version is odd between them,
-//!   and a look-up that meets an odd or another version tries again.
-//! - `Looker` is what one thread has seen; it takes no memory and is registered nowhere. `look` returns the
-//!   node to which a path led at one moment after all that the looker had seen, or None: ask the owner of the
-//!   tree. `again` is one load: what was found still stands.
+//!   `start`, then `give` and `take` for each name that came or went, then `publish`. The version is odd
+//!   between `start` and `publish`. A look-up that finds an odd version, or another one at its end, tries
+//!   again.
+//! - A `Looker` is what one thread has seen. It allocates nothing and is registered nowhere. `look` returns
+//!   the node to which a path led at one moment after all that the looker had seen. If it returns None, ask
+//!   the owner of the tree. If `again`, which is one load, returns true, what was found is still true.
 //!
-//! The writer shows that a name which it gives or takes is of the child's own slot (`of_slot`). Names of
-//! more than 24 bytes have no words.
+//! The caller proves that a name which it gives or takes has no child, or one in the given slot (`of_slot`).
+//! Names of more than 24 bytes have no words.
 #![tactic(auto)]
 
 mod found;

@@ -1,4 +1,4 @@
-//! The words that hold names, and who sits at them.
+//! The words that hold names, and the seats at them.
 ghost use Rattle.std.specs.Prelude.{◌≡◌, ◌+◌, ◌≤◌, [], IfOk};
 ghost use Rattle.kf_core.specs.Limits.{most_slots};
 ghost use Rattle.kf_looks.specs.Lines.{lines_at, words_for};
@@ -13,9 +13,9 @@ use crate::writer::Writer;
 use crate::writer_token::WriterToken;
 use std::alloc::{AllocError, Global};
 
-/// The words. Any number of threads look names up there, and none of them writes.
+/// The words for look-ups. Any number of threads look names up in them, and none of these threads writes.
 ///
-/// They take 88 bytes for each slot and 240 more. Without a slot no look-up finds anything.
+/// They take 88 bytes for each slot and 240 more. With no slot, no look-up finds anything.
 #[derive(Drop)]
 pub struct LookupTable {
     pub table: LookTable,
@@ -26,7 +26,8 @@ pub struct LookupTable {
 }
 
 impl LookupTable {
-    /// Words for the nodes of that many slots, with no name. With no slot the version is odd for ever.
+    /// Makes words for the nodes of this many slots, with no name yet. With no slot, the version is always
+    /// odd.
     ///
     /// Condition: there are at most [`kf_core::MOST_SLOTS`] slots.
     pub fn new(alloc: Global, slots: u32) -> Result<(LookupTable, Writer), AllocError>
@@ -45,7 +46,7 @@ impl LookupTable {
         Ok((LookupTable { table, slots }, Writer { seat, version }))
     }
 
-    /// A reader that has seen nothing yet.
+    /// Makes a reader that has seen nothing yet.
     pub fn looker(&self) -> Looker
         ensures table { result.seat.table_id ≡ self.now.table.shared.table_id }
         ensures fresh { seen result ≡ [] }
@@ -55,7 +56,7 @@ impl LookupTable {
         }
     }
 
-    /// A reader that has seen all links: none of its look-ups goes back behind them.
+    /// Makes a reader that has now seen all links. None of its look-ups finds an earlier state than theirs.
     ///
     /// Condition: the writer is of this table.
     pub fn looker_after(&self, writer: &mut Writer) -> Looker
@@ -71,7 +72,7 @@ impl LookupTable {
         }
     }
 
-    /// The seat of a reader that has seen all links.
+    /// Makes the seat of a reader that has now seen all links.
     fn tell(&self, writer: &mut LookSeat) -> LookSeat
         requires table { writer.old.table_id ≡ self.now.table.shared.table_id }
         requires writes { IsWriter writer.old.me.0 }
@@ -84,8 +85,8 @@ impl LookupTable {
         self.table.shared.split_seat::<Tells>(writer)
     }
 
-    /// A reader that has seen what another has, such as the one in a receipt: none of its look-ups goes back
-    /// behind that.
+    /// Makes a reader that has seen what another reader has, such as the one in a receipt. None of the new
+    /// reader's look-ups finds an earlier state than what the other has seen.
     ///
     /// Condition: the other reader is of this table.
     pub fn looker_like(&self, other: &mut Looker) -> Looker

@@ -8,7 +8,7 @@ use kf_core::{Key, Node};
 /// One above the largest slot.
 const HALF: u64 = 4294967296;
 
-/// The shapes of nodes; 0 is that of none.
+/// The shapes of nodes. Shape 0 is that of no node.
 pub(crate) const DIR: u64 = 1;
 
 const LINK: u64 = 2;
@@ -32,7 +32,7 @@ pub(crate) fn key_in(word: u64) -> Key
     }
 }
 
-/// The shape of a node, and the word beside it: a link's target, a file's tag.
+/// The shape of a node, and the word beside it: a link's target or a file's tag.
 pub(crate) fn node_words(node: Node) -> (u64, u64)
     ensures same { node_of result.0 result.1 ≡ node }
     ensures some { result.0 ≢ 0 }
@@ -63,7 +63,7 @@ pub(crate) fn node_in(shape: u64, more: u64) -> Node
     }
 }
 
-/// The child that three words say.
+/// The child that three words describe; None if the shape is 0.
 pub(crate) fn child_in(key: u64, more: u64, shape: u64) -> Option<Found>
     ensures same { result ≡ child_by key more shape }
 {
@@ -76,7 +76,7 @@ pub(crate) fn child_in(key: u64, more: u64, shape: u64) -> Option<Found>
     })
 }
 
-/// The three words of a child: its key, what its shape leaves open, and its shape.
+/// The three words of a child: its key, its link target or file tag, and its shape.
 pub(crate) fn child_words(child: Option<Found>) -> (u64, u64, u64)
     ensures same { child_by result.0 result.1 result.2 ≡ child }
 {

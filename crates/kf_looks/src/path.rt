@@ -1,4 +1,4 @@
-//! Paths, cut name by name.
+//! Paths, split into names one by one.
 ghost use Rattle.std.specs.Prelude.{◌≡◌, ◌∷◌, ◌<◌, ◌≤◌, map, position, IfSome, length, take};
 ghost use Rattle.std.specs.Option.{option_map};
 ghost use Rattle.std.specs.List.{slice_split};
@@ -7,7 +7,7 @@ ghost use Rattle.kf_core.specs.Paths.{is_slash, later_parts};
 
 use std::simd::prelude::*;
 
-/// Which of the first eight bytes are slashes, bit by bit.
+/// Which of the first eight bytes are slashes, one bit for each byte.
 #[inline(always)]
 fn slashes_of_eight(text: &[u8]) -> u64
     requires { 8 ≤ length text.now }
@@ -18,7 +18,7 @@ fn slashes_of_eight(text: &[u8]) -> u64
         .to_bitmask()
 }
 
-/// Which of the first sixteen bytes are slashes, bit by bit.
+/// Which of the first sixteen bytes are slashes, one bit for each byte.
 #[inline(always)]
 fn slashes_of_sixteen(text: &[u8]) -> u64
     requires { 16 ≤ length text.now }
@@ -47,7 +47,7 @@ fn find_slash(text: &[u8]) -> Option<usize>
     text.iter().position(|byte| *byte == b'/')
 }
 
-/// The first part of the text, and what follows its slash.
+/// The part of the text before its first slash, and what follows that slash.
 #[inline(always)]
 pub(crate) fn first_part(text: &[u8]) -> (&[u8], Option<&[u8]>)
     ensures parts { slice_split is_slash text.now ≡ result.0.now

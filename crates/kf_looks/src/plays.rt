@@ -1,4 +1,4 @@
-//! The kinds of step on the table: what each makes of the view of the seat that steps.
+//! The kinds of step on the table, and what each makes of the view of the seat that takes it.
 use crate::view::LookView;
 use atomic_table::{Join, Play, Split};
 
@@ -20,7 +20,7 @@ impl Play<(), LookView> for Begins {
     ghost then = { MakesBegin };
 }
 
-/// A seat loads a word behind the version.
+/// A seat loads one of the words after the version.
 pub(crate) struct Peeks;
 
 impl Play<(), LookView> for Peeks {
@@ -38,7 +38,7 @@ impl Play<(), LookView> for Checks {
     ghost then = { MakesCheck };
 }
 
-/// The writer loads a word behind the version: it finds what it planned.
+/// The writer loads one of the words after the version, and finds what it planned.
 pub(crate) struct Recalls;
 
 impl Play<(), LookView> for Recalls {
@@ -85,7 +85,7 @@ impl Split<LookView> for Tells {
     ghost right = { told };
 }
 
-/// A reader makes another, which has seen what it has.
+/// A reader makes another one, which has seen the same links.
 pub(crate) struct Copies;
 
 impl Split<LookView> for Copies {

@@ -8,7 +8,7 @@ use crate::lookup_table::LookupTable;
 use crate::plays::{Begins, Checks, Peeks};
 use crate::table::{LINES_AT, LookSeat};
 
-/// A reader: it has no bytes. Contracts see the links that it has seen.
+/// A reader of the words for look-ups, which is zero-sized. Contracts see the links that it has seen.
 #[derive(Drop)]
 pub struct Looker {
     pub seat: LookSeat,
@@ -17,7 +17,7 @@ pub struct Looker {
 }
 
 impl LookupTable {
-    /// Loads the version first.
+    /// Loads the version at the start of a try.
     #[inline(always)]
     pub(crate) fn begin(&self, seat: &mut LookSeat) -> u64
         requires table { seat.old.table_id ≡ self.now.table.shared.table_id }
@@ -28,7 +28,7 @@ impl LookupTable {
         self.table.shared.load::<Begins>(seat, 0)
     }
 
-    /// Loads a word behind the version.
+    /// Loads one of the words after the version.
     #[inline(always)]
     pub(crate) fn word(&self, seat: &mut LookSeat, index: usize) -> u64
         requires table { seat.old.table_id ≡ self.now.table.shared.table_id }
@@ -39,7 +39,8 @@ impl LookupTable {
         self.table.shared.load::<Peeks>(seat, index + LINES_AT)
     }
 
-    /// Loads the version again. If it is the one found first, all that was read stood there at once.
+    /// Loads the version again. If it is the version that was found first, all that was read was there at one
+    /// moment.
     #[inline(always)]
     pub(crate) fn check(&self, seat: &mut LookSeat) -> u64
         requires table { seat.old.table_id ≡ self.now.table.shared.table_id }

@@ -1,4 +1,4 @@
-//! What the writer reads of the words.
+//! What the writer reads from the words.
 ghost use Rattle.std.specs.Prelude.{◌≡◌, ◌+◌, ◌<◌, ℕ, true, Some, length, slice_index};
 ghost use Rattle.kf_looks.specs.Lines.{bytes_in, word_at, words_for};
 ghost use Rattle.kf_looks.specs.Links.{child_of};
@@ -15,7 +15,7 @@ use crate::writer::Section;
 use kf_core::Key;
 
 impl LookupTable {
-    /// A word behind the version, which is the one that the writer planned.
+    /// Loads one of the words after the version, which is the one that the writer planned.
     pub(crate) fn recall(&self, seat: &mut LookSeat, index: usize) -> u64
         requires table { seat.old.table_id ≡ self.now.table.shared.table_id }
         requires inside { index < words_for self.now.slots }
@@ -26,7 +26,7 @@ impl LookupTable {
         self.table.shared.load::<Recalls>(seat, index + LINES_AT)
     }
 
-    /// The eight words of a line, which are those that the writer planned.
+    /// Loads the eight words of a line, which are those that the writer planned.
     fn recall_line(&self, seat: &mut LookSeat, line: usize) -> [u64; 8]
         requires table { seat.old.table_id ≡ self.now.table.shared.table_id }
         requires inside { line < self.now.slots }
@@ -43,7 +43,7 @@ impl LookupTable {
         words
     }
 
-    /// Whether the child's line says already that it stands under this name in this directory. It stores no
+    /// Whether the child's line already says that the child has this name in this directory. It stores no
     /// word.
     ///
     /// Condition: the section is of this table.

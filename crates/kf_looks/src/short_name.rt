@@ -1,4 +1,4 @@
-//! Names of at most 24 bytes, as the words hold them.
+//! Names of 1 to 24 bytes, as the words hold them.
 ghost use Rattle.std.specs.Prelude.{◌≡◌, ◌+◌, ◌≤◌, ◌<◌, ◌↔◌, List, ℕ, length, take, drop, IsSome, IfSome, ◌++◌, false};
 ghost use Rattle.kf_looks.specs.ShortNames.{bytes_before};
 ghost use Rattle.kf_looks.specs.Lines.{bytes_in};
@@ -6,10 +6,10 @@ ghost use Rattle.kf_core.specs.Paths.{is_empty};
 
 use std::cmp::min;
 
-/// The most bytes of a name that stands in the words.
+/// The greatest number of bytes of a name that has words.
 const MOST_BYTES: usize = 24;
 
-/// A name of 1 to 24 bytes, which `bytes_in` gives in contracts.
+/// A name of 1 to 24 bytes. In contracts, `bytes_in` gives the bytes.
 #[derive(Clone, Copy, Debug)]
 pub struct ShortName {
     pub(crate) count: u64,
@@ -18,7 +18,7 @@ pub struct ShortName {
     pub(crate) third: u64,
 }
 
-/// Up to eight bytes as one word, the first the highest.
+/// Up to eight bytes as one word, with the first byte the highest.
 pub(crate) fn word_of(bytes: &[u8]) -> u64
     requires few { length bytes.now ≤ 8 }
     ensures bytes { (later : List ℕ) → bytes_before (length bytes.now) result later ≡ bytes.now ++ later }
@@ -30,7 +30,7 @@ pub(crate) fn word_of(bytes: &[u8]) -> u64
     word
 }
 
-/// Eight bytes of a text as one word, the first the highest.
+/// Eight bytes of a text as one word, with the first byte the highest.
 #[inline(always)]
 fn eight_at(text: &[u8], at: usize) -> u64
     requires inside { at + 8 ≤ length text.now }
@@ -48,7 +48,8 @@ fn eight_at(text: &[u8], at: usize) -> u64
     ])
 }
 
-/// `count` bytes of a text, up to eight, as one word. If the text has eight there, all are read at once.
+/// `count` bytes of a text, up to eight, as one word. If the text has eight bytes from `at` on, they are read
+/// at once.
 #[inline(always)]
 fn word_at(text: &[u8], at: usize, count: usize) -> u64
     requires few { count ≤ 8 }
@@ -66,7 +67,7 @@ fn word_at(text: &[u8], at: usize, count: usize) -> u64
 }
 
 impl ShortName {
-    /// The first `count` bytes of a text. None for no byte, and for more than 24.
+    /// A name made of the first `count` bytes of a text; None if `count` is 0 or more than 24.
     #[inline(always)]
     pub(crate) fn at_front(text: &[u8], count: usize) -> Option<ShortName>
         requires inside { count ≤ length text.now }
@@ -94,7 +95,7 @@ impl ShortName {
         })
     }
 
-    /// None for no byte, and for more than 24.
+    /// A name made of these bytes; None if there is no byte, or more than 24.
     #[inline(always)]
     pub fn of(bytes: &[u8]) -> Option<ShortName>
         ensures known { IsSome result ↔ ((1 ≤ length bytes.now) × (length bytes.now ≤ 24)) }

@@ -1,21 +1,23 @@
-//! The table of words and its rule. Word 0 is the version, which is odd while the writer changes the others:
-//! from word `LINES_AT` on a line of eight words for each slot and one that nobody reads, and then the hints.
+//! The table of words and its rule. Word 0 is the version, which is odd while the writer changes the other
+//! words. From word `LINES_AT` on there is a line of eight words for each slot, and one more line that nobody
+//! reads. After the lines come the hints.
 use crate::view::LookView;
 use atomic_table::{Seat, Table, TableRule};
 use std::alloc::Global;
 
-/// The word at which the lines begin. An allocator's large blocks begin 16 bytes behind the edge of a cache
-/// line, so each line of the table is one cache line, and the version has a cache line for itself.
+/// The word at which the lines begin. An allocator's large blocks begin 16 bytes after the start of a cache
+/// line. So each line of the table is one cache line, and the version has a cache line for itself.
 pub(crate) const LINES_AT: usize = 6;
 
-/// How the table begins: with lines for that many slots, at this version.
+/// How the table begins: with lines for this many slots, and at this version.
 #[derive(Clone, Copy)]
 pub struct LookOpening {
     pub slots: u64,
     pub version: u64,
 }
 
-/// The rule of the table: what the words show of all views, between any two steps.
+/// The rule of the table, which says how the words and the views of all seats fit together between any two
+/// steps.
 pub struct LookRule;
 
 impl TableRule<(), LookView, LookOpening> for LookRule {

@@ -1,4 +1,4 @@
-//! Look-ups: the node to which a path leads, without the lock.
+//! Look-ups, which find the node to which a path leads, without the lock.
 ghost use Rattle.std.specs.Prelude.{◌≡◌, ◌≢◌, ◌<◌, true, false, List, Some, IfOk, IfSome, slice_index};
 ghost use Rattle.std.specs.List.{list_any, slice_split};
 ghost use Rattle.kf_looks.specs.Lines.{bytes_in, link_at, link_by};
@@ -20,19 +20,19 @@ use kf_core::{Key, Node};
 use std::hint::spin_loop;
 
 /// How many times a look-up tries. One try takes about a tenth of a microsecond, and so does the change of
-/// one node, so nearly every look-up passes within a few tries. The bound keeps a look-up from spinning
-/// beside a writer that never pauses: after some microseconds it is better to wait for the lock.
+/// one node, so nearly every look-up succeeds within a few tries. The bound keeps a look-up from spinning
+/// beside a writer that never pauses. After some microseconds it is better to wait for the lock.
 const TRIES: u32 = 64;
 
 /// Why one try of a look-up found nothing.
 enum Miss {
     /// The words have no such path. Another try would find the same.
     NotThere,
-    /// The version was odd, or moved during the try. Another try may find the path.
+    /// The version was odd, or it changed during the try. Another try may find the path.
     Changed,
 }
 
-/// The node that a walk has reached: what the words say of it, and in which line it may stand itself.
+/// The node that a walk has reached: what the words say of it, and the line that it may have itself.
 #[derive(Clone, Copy)]
 struct Here {
     line: u64,
@@ -42,7 +42,7 @@ struct Here {
 }
 
 impl Here {
-    /// The node.
+    /// The node that the walk has reached.
     fn found(self) -> Found
         requires some { self.shape ≢ 0 }
         ensures same { result ≡ found_of self.key self.more self.shape }
@@ -54,7 +54,7 @@ impl Here {
     }
 }
 
-/// The child that a line gives this name in this directory.
+/// The child that a line gives to this name in this directory.
 #[inline(always)]
 pub(crate) fn child_there(line: &[u64; 8], dir: u64, name: &ShortName) -> Option<Found>
     ensures dir { IfSome result (λ child. slice_index line.now 0 ≡ dir) }
@@ -73,7 +73,7 @@ pub(crate) fn child_there(line: &[u64; 8], dir: u64, name: &ShortName) -> Option
 }
 
 impl LookupTable {
-    /// What a line says of its child, if it says that the child has this name in this directory.
+    /// What a line says of its child, if the line says that the child has this name in this directory.
     #[inline(always)]
     fn child_at(&self, seat: &mut LookSeat, line: usize, dir: u64, name: &ShortName) -> Option<Here>
         requires table { seat.old.table_id ≡ self.now.table.shared.table_id }
@@ -114,8 +114,8 @@ impl LookupTable {
         })
     }
 
-    /// The child of a name in a directory, as the words that were read say. The line that the directory may
-    /// have is not believed.
+    /// The child that a name has in a directory, according to the words that were read. The line that the
+    /// directory may have is not trusted.
     #[inline(always)]
     fn step(&self, seat: &mut LookSeat, dir: &Here, name: &ShortName) -> Option<Here>
         requires table { seat.old.table_id ≡ self.now.table.shared.table_id }
@@ -134,7 +134,7 @@ impl LookupTable {
         Some(child)
     }
 
-    /// What the parts of a text lead to one after another, as the words that were read say.
+    /// The node to which the parts of a text lead one after another, according to the words that were read.
     fn follow(&self, seat: &mut LookSeat, from: Key, parts: &[u8]) -> Option<Found>
         requires table { seat.old.table_id ≡ self.now.table.shared.table_id }
         requires slots { seat.old.me.0.slots ≡ self.now.slots }
@@ -160,7 +160,7 @@ impl LookupTable {
         Some(here.found())
     }
 
-    /// What a path leads to, as the words that were read say.
+    /// The node to which a path leads, according to the words that were read.
     fn lead(&self, seat: &mut LookSeat, root: Key, path: &[u8]) -> Option<Found>
         requires table { seat.old.table_id ≡ self.now.table.shared.table_id }
         requires slots { seat.old.me.0.slots ≡ self.now.slots }
@@ -206,13 +206,14 @@ impl LookupTable {
         }
     }
 
-    /// The node to which a path leads from a directory on, by the links that the reader has then seen: all
-    /// those before, and maybe later ones. It takes no lock, writes nothing and waits for
-    /// nobody: it loads the version twice, and for each name its hint and eight words. If a change came
-    /// during the try, it tries again, at most 64 times.
+    /// The node to which a path leads from a directory, by the links that the reader has seen when this
+    /// returns. These are all that it had seen before, and maybe later ones. It takes no lock, writes nothing
+    /// and waits for nobody. Each try loads the version at most twice and, for each name, up to 16 hints and
+    /// up to eight words of a line. If a change came during a try, it tries again. It makes at most 64 tries.
     ///
-    /// None is no refusal: ask under the lock. A name is longer than 24 bytes, is not there or has no line;
-    /// or the path has another form; or a change came during each try.
+    /// None is not a refusal: ask under the lock then. It means that a name is longer than 24 bytes, is not
+    /// there, or has no line or no hint, that the path has another form, or that a change came during each
+    /// try.
     ///
     /// Condition: the reader is of this table.
     pub fn look(&self, looker: &mut Looker, root: Key, path: &[u8]) -> Option<FoundAt>
@@ -235,10 +236,12 @@ impl LookupTable {
         None
     }
 
-    /// Whether what this reader found still stands, in one load. Then it is true of the links that are now
-    /// seen: all that had been seen, and maybe later ones.
+    /// Whether the version is still the one of the sight, by one load. If so, what was found is true of the
+    /// links that the reader has seen when this returns: all that it had seen before, and maybe later ones.
+    /// If not, a change was begun since, maybe of another name.
     ///
-    /// Condition: it is the last sight of this reader's `look`, maybe after calls of `again`.
+    /// Condition: the sight is from this reader's last `look`, with this root and path, after which at most
+    /// `again` was called.
     pub fn again(&self, looker: &mut Looker, sight: &FoundAt, root: Key, path: &[u8]) -> bool
         requires table { looker.old.seat.table_id ≡ self.now.table.shared.table_id }
         requires stands { Stands looker.old.seat.me.0 sight.now.version
@@ -250,7 +253,7 @@ impl LookupTable {
         ensures found { result ≡ true
             → led (seen looker.new) root path.now ≡ Some sight.now.found }
     {
-        // Only the contract names these.
+        // Only the contract uses these arguments.
         let _ = root;
         let _ = path.len();
         self.check(&mut looker.seat) == sight.version

@@ -17,7 +17,7 @@ use kf_core::Key;
 
 const HALF: u64 = 4294967296;
 
-/// The one writer of the words, which lies behind the tree's lock. Contracts see all links.
+/// The one writer of the words, which the tree's lock guards. Contracts see all links.
 #[derive(Drop)]
 pub struct Writer {
     pub seat: WriterToken,
@@ -27,7 +27,7 @@ pub struct Writer {
     ghost rests: { version % 2 ≡ 1 → version ≡ 18446744073709551615 },
 }
 
-/// The words while they are changed: no look-up passes meanwhile.
+/// The words while they are being changed: no look-up succeeds meanwhile.
 #[derive(Drop)]
 pub struct Section {
     pub seat: WriterToken,
@@ -38,7 +38,7 @@ pub struct Section {
 }
 
 impl LookupTable {
-    /// Makes the next version.
+    /// Stores the next version.
     fn advance(&self, seat: &mut LookSeat, version: u64)
         requires table { seat.old.table_id ≡ self.now.table.shared.table_id }
         requires writes { IsWriter seat.old.me.0 }
@@ -63,7 +63,7 @@ impl LookupTable {
             .store::<Puts>(seat, index + LINES_AT, value);
     }
 
-    /// Changes the last word of a line: the link that the line now says is made.
+    /// Changes the last word of a line, which makes the link that the line now says.
     fn enter(&self, seat: &mut LookSeat, index: usize, value: u64)
         requires table { seat.old.table_id ≡ self.now.table.shared.table_id }
         requires inside { index < words_for self.now.slots }
@@ -76,7 +76,7 @@ impl LookupTable {
             .store::<Enters>(seat, index + LINES_AT, value);
     }
 
-    /// Changes the words of a line but the last.
+    /// Changes the words of a line, except the last one.
     fn fill(&self, seat: &mut LookSeat, at: usize, words: &[u64; 7])
         requires table { seat.old.table_id ≡ self.now.table.shared.table_id }
         requires inside { at + 7 < words_for self.now.slots }
@@ -93,7 +93,8 @@ impl LookupTable {
         }
     }
 
-    /// The word of the first hint that is this one; or, if one is to be given, that is free or has the tag.
+    /// The number of the first hint word that has this hint. If a hint is to be given, a word also counts if
+    /// it is free or has the tag.
     fn way(&self, seat: &mut LookSeat, place: Place, hint: u64, given: bool) -> Option<usize>
         requires table { seat.old.table_id ≡ self.now.table.shared.table_id }
         requires inside { place.first + 16 ≤ words_for self.now.slots }
@@ -111,7 +112,7 @@ impl LookupTable {
         None
     }
 
-    /// Gives a name the hint of a line, or takes it back.
+    /// Gives a name the hint of a line, if a hint word is free for it, or takes the hint back.
     fn note(&self, seat: &mut LookSeat, place: Place, line: u32, given: bool)
         requires table { seat.old.table_id ≡ self.now.table.shared.table_id }
         requires first { 8 * self.now.slots + 8 ≤ place.first }
@@ -128,7 +129,7 @@ impl LookupTable {
         }
     }
 
-    /// Begins a change: no look-up passes until it is published. It waits for no reader.
+    /// Begins a change: no look-up succeeds until it is published. It waits for no reader.
     ///
     /// Condition: the writer is of this table.
     pub fn start(&self, writer: Writer) -> Section
@@ -168,7 +169,7 @@ impl LookupTable {
         ensures knows { WritesTrue seat.new.me.0 version }
         ensures linked { links_of seat.new ≡ link dir (bytes_in name.now) child ∷ links_of seat.old }
     {
-        let _ = version; // only the contract names it
+        let _ = version; // only the contract uses it
         let dir_word = key_word(dir);
         let (key, more, shape) = child_words(child);
         let line = if (slot as u64) < self.slots {
@@ -184,7 +185,7 @@ impl LookupTable {
         self.note(seat, self.place(dir.slot as u64, name), slot, given);
     }
 
-    /// Makes the link that the name has this child.
+    /// Makes a link: this name has this child, or none.
     fn change(
         &self,
         section: Section,
@@ -205,7 +206,7 @@ impl LookupTable {
         Section { seat, version }
     }
 
-    /// Gives a name in a directory this child. At most 9 words are stored.
+    /// Gives this child to a name in a directory. At most 9 words are stored.
     ///
     /// Condition: the name has no child, or one in the same slot.
     pub fn give(&self, section: Section, dir: Key, name: &ShortName, child: Found) -> Section
@@ -218,7 +219,7 @@ impl LookupTable {
         self.change(section, dir, name, child.key.slot, Some(child))
     }
 
-    /// Takes the name in a directory away from its child, which has this slot. At most 9 words are stored.
+    /// Takes a name in a directory away from its child, which has this slot. At most 9 words are stored.
     ///
     /// Condition: the name has no child, or one in this slot.
     pub fn take(&self, section: Section, dir: Key, name: &ShortName, slot: u32) -> Section
@@ -231,7 +232,7 @@ impl LookupTable {
         self.change(section, dir, name, slot, None)
     }
 
-    /// Publishes the change: look-ups pass again. After 2^63 changes they no longer do.
+    /// Publishes the change: look-ups succeed again. After 2^63 changes they no longer do.
     ///
     /// Condition: the section is of this table.
     pub fn publish(&self, section: Section) -> Writer

@@ -1,12 +1,12 @@
-//! The writer's token. A `&` to it allows nothing, so any number of threads may have one at once: they may
-//! look at what lies beside a writer, as threads do that only read the tree.
+//! The writer's token. A `&` to it allows nothing, so any number of threads may have one at once. So threads
+//! that only read the tree may look at what is stored beside a writer.
 ghost use Rattle.std.specs.Prelude.{◌≡◌};
 
 use crate::view::LookView;
 use atomic_table::Seat;
 use std::marker::Model;
 
-/// The writer's seat at the table, which is reached only through a `&mut`. To a contract it is that seat.
+/// The writer's seat at the table, which can be reached only through a `&mut`. In contracts it is that seat.
 #[derive(Drop)]
 pub struct WriterToken {
     pub(crate) seat: Seat<(), LookView>,
@@ -26,7 +26,7 @@ impl Model for WriterToken {
     ghost also_owns = { λ _. ftrue };
 }
 
-// The check takes neither from these lines: it reads the two proofs in `proofs/writer_token`.
+// The checker does not take these two lines on trust: it reads the two proofs in `proofs/writer_token`.
 unsafe impl Send for WriterToken {}
 
 unsafe impl Sync for WriterToken {}

@@ -1,4 +1,4 @@
--- Each step keeps what the words show of the views, and the opening shows it.
+-- Each step keeps the rule that ties the words to the views, and the opening meets that rule.
 use Rattle.std.proofs.Common.{◌≡◌, ℕ, zero, suc, ◌+◌, ◌<◌, ◌≤◌, List, [], ◌∷◌, ◌++◌, length, length-set, set, get_or, replicate, refl, sym, ap, subst, arith, get_or-set_same, get_or-set_other, ⊎_elim}
 use Rattle.std.specs.Prelude.{max}
 use Rattle.std.proofs.lemmas.List.{set-get_or}
@@ -12,18 +12,18 @@ use Rattle.kf_notify.specs.declared.view.NumberView.{NumberView}
 use Rattle.kf_notify.specs.Rule.{Table, NumbersShown, KnowsNext, IsSeated, number_at, opened}
 use Rattle.kf_notify.specs.Steps.{loaded, raised, doubled}
 
--- what holds of a seat's new view and of all others holds of all views after its step
+-- what is true of a seat's new view and of all other views is true of all views after the seat's step
 each_after : (views : List NumberView) (seat : ℕ) (w : NumberView) (P : NumberView → Type 0) → P w → ((j : ℕ) (s : NumberView) → get_elem? views j ≡ some s → P s)
     → (j : ℕ) (s : NumberView) → get_elem? (set views seat w) j ≡ some s → P s
 each_after views seat w P own others j s e = ⊎_elim (λ x. subst P x.1 own) (λ x. others j s x.1) (at_set views seat j w s e)
 
--- a seat's place is among the views
+-- the place of a seat is within the list of views
 pub seat_within : {A : Type 0} (views : List A) (seat : ℕ) (v : A) → get_elem? views seat ≡ some v → seat < length views
 seat_within [] seat v e = absurd (some-ne-none v (sym e))
 seat_within (x ∷ xs) zero v e = omega arith
 seat_within (x ∷ xs) (suc seat) v e = let r = seat_within xs seat v e in omega arith
 
--- a load keeps it
+-- a load keeps the rule
 pub load_keeps : (slots start : ℕ) (t : Table) (seat : ℕ) (v : NumberView) (slot : ℕ) → NumbersShown slots start t → IsSeated t seat v → slot < slots
     → NumbersShown slots start (stepped t slot (number_at t slot) seat [] (loaded slot (number_at t slot) v) keeps)
 load_keeps slots start t seat v slot h at near =
@@ -39,13 +39,13 @@ load_keeps slots start t seat v slot h at near =
     } in
     subst (λ (l : List ℕ). NumbersShown slots start (record { words = l; homes = t.homes; views = set t.views seat w })) (sym same) kept
 
--- a word raised is no smaller, and no other word changes
+-- a raise makes no word smaller
 pub grown : (words : List ℕ) (i number k : ℕ) → i < length words → (get_or words k 0 ≤ get_or (set words i (max (get_or words i 0) number)) k 0)
 grown words i number k near = dite (ℕ_discrete k i)
     (λ same. subst (λ (x : ℕ). get_or words x 0 ≤ get_or (set words i (max (get_or words i 0) number)) x 0) (sym same) (let w = get_or-set_same words i (max (get_or words i 0) number) 0 near in omega arith))
     (λ other. let w = get_or-set_other words i k (max (get_or words i 0) number) 0 other in omega arith)
 
--- a number raised keeps it
+-- a raise keeps the rule
 pub raise_keeps : (slots start : ℕ) (t : Table) (seat : ℕ) (v : NumberView) (number : ℕ) → NumbersShown slots start t → IsSeated t seat v → v.slot < slots → number ≡ v.found + 1
     → NumbersShown slots start (stepped t v.slot (max (number_at t v.slot) number) seat [] (raised number v) keeps)
 raise_keeps slots start t seat v number h at near next =
@@ -66,7 +66,7 @@ raise_keeps slots start t seat v number h at near next =
       least = λ k below. let a = h.least k below in let b = grown t.words i number k within in omega arith;
     }
 
--- a seat doubled keeps it
+-- doubling a seat keeps the rule
 pub double_keeps : (slots start seat : ℕ) (v : NumberView) (t : Table) → NumbersShown slots start t → IsSeated t seat v
     → NumbersShown slots start (record { words = t.words; homes = t.homes; views = set t.views seat v ++ doubled v ∷ [] })
 double_keeps slots start seat v t h at =
@@ -83,7 +83,7 @@ double_keeps slots start seat v t h at =
     } in
     subst (λ (l : List NumberView). NumbersShown slots start (record { words = t.words; homes = t.homes; views = l ++ doubled v ∷ [] })) (sym same) kept
 
--- the only seat at the opening
+-- the opening has only one seat
 first_only : (v s : NumberView) (j : ℕ) → get_elem? (v ∷ []) j ≡ some s → v ≡ s
 first_only v s zero e = some-injective v s e
 first_only v s (suc j) e = absurd (some-ne-none s (sym e))
@@ -97,7 +97,7 @@ length-replicate : (n x : ℕ) → length (replicate n x) ≡ n
 length-replicate zero x = refl
 length-replicate (suc n) x = ap suc (length-replicate n x)
 
--- the opening shows it
+-- the opening meets the rule
 pub opening_shown : (slots words start : ℕ) → slots ≤ words → NumbersShown slots start (opening (replicate words start) [] (opened start))
 opening_shown slots words start enough = record {
   wide = let long = length-replicate words start in omega arith;

@@ -1,4 +1,4 @@
--- Two notifies of a slot that do not overlap.
+-- If two notifies of a slot do not overlap, the later one makes a greater number.
 use Rattle.std.proofs.Common.{◌≡◌, ℕ, ◌<◌, ◌≤◌, List, [], ◌∷◌, ◌++◌, get_or, get_or-set_same, set, refl, sym, ap, ◌∙◌, subst, arith}
 use Rattle.std.specs.Prelude.{max}
 use mathlib.Core.Logic.{dite}
@@ -14,7 +14,7 @@ use Rattle.kf_notify.specs.Laws.{StaysRaised, LaterIsGreater}
 use Rattle.kf_notify.proofs.Allowed.{seat_within}
 use Rattle.kf_notify.proofs.Runs.{step_keeps, never_goes_back}
 
--- a raise leaves no less than the number that it makes
+-- after a raise, the slot's number is no less than the number that the raise makes
 raised_to : (slots start : ℕ) (t : Table) (seat slot number : ℕ) (t' : Table) → NumbersShown slots start t → NumberStep slots t (raises seat slot number) t' → number ≤ number_at t' slot
 raised_to slots start t seat slot number t' h s =
     let n : ℕ = get_or t.words slot 0 in
@@ -33,7 +33,8 @@ stays_raised slots start t seat slot number kinds t' h run =
 abbrev HasSeen : Table → ℕ → ℕ → ℕ → Type 0
 HasSeen t seat slot number = (v : NumberView) × IsSeated t seat v × (v.slot ≡ slot → number ≤ v.found)
 
--- a seat's step to this view leaves what another has, and its own if the new view has seen as much
+-- after a seat's step to this view, another seat has seen as much as before, and so has the seat itself if
+-- the new view has
 stays_seen : (t : Table) (seat other slot number : ℕ) (v w : NumberView) → IsSeated t seat v → HasSeen t other slot number
     → (other ≡ seat → w.slot ≡ slot → number ≤ w.found)
     → (u : NumberView) × (get_elem? (set t.views seat w) other ≡ some u) × (u.slot ≡ slot → number ≤ u.found)
@@ -72,7 +73,7 @@ after_load slots start t other slot number later (kind ∷ more) t' h enough see
     let risen : number_at t slot ≤ number_at run.0 slot = never_goes_back slots start t (kind ∷ []) run.0 h (run.0, run.1, refl) slot in
     after_load slots start run.0 other slot number later more t' kept (omega arith) (still_seen slots t kind run.0 other slot number run.1 enough seen) run.2
 
--- so does a load and a raise, if the slot's number was no less before
+-- a load followed by a raise makes a greater number, if the slot's number was no less than this number before
 before_load : (slots start : ℕ) (t : Table) (other slot number later : ℕ) (kinds more : List NumberStepKind) (t' : Table) → NumbersShown slots start t
     → number ≤ number_at t slot → NumberRun slots t (kinds ++ loads other slot ∷ (more ++ raises other slot later ∷ [])) t' → number < later
 before_load slots start t other slot number later [] more t' h enough run =

@@ -1,4 +1,4 @@
--- What the rule says of the one run: each table that meets it is at the end of a run from the opening.
+-- What the rule says about the one run: each table that meets the rule ends a run from the opening.
 use Rattle.std.proofs.Common.{◌≡◌, ◌⊎◌, inl, inr, ℕ, zero, suc, ◌≤◌, List, [], ◌∷◌, ◌++◌, refl, sym, ap, ◌∙◌, subst, ⊎_elim, arith}
 use Rattle.std.specs.Prelude.{max, Contains}
 use mathlib.Core.Logic.{dite}

@@ -1,4 +1,5 @@
--- A step of the one run keeps the rule: the run goes on by it, and who makes it has seen the whole of it.
+-- A step keeps the rule: it is the next one of the run, and the seat that makes it has now seen the whole
+-- run.
 use Rattle.std.proofs.Common.{◌≡◌, ◌≢◌, ℕ, zero, suc, List, [], ◌∷◌, ◌++◌, map, set, refl, sym, ap, ◌∙◌, subst, ⊎_elim, append_assoc}
 use Rattle.std.proofs.lemmas.List.{append-nil}
 use mathlib.Core.Option.{some, some-ne-none, some-injective}
@@ -22,31 +23,31 @@ prefix_self xs = ([], append-nil xs)
 pub prefix_more : {A : Type 0} (xs log more : List A) → IsPrefix xs log → IsPrefix xs (log ++ more)
 prefix_more xs log more p = (p.0 ++ more, sym (append_assoc xs p.0 more) ∙ ap (λ w. w ++ more) p.1)
 
--- a run and one step more
+-- a run followed by one more step
 pub run_snoc : (slots : ℕ) (kinds : List NumberStepKind) (t u v : Table) (kind : NumberStepKind) → NumberRun slots t kinds u → NumberStep slots u kind v → NumberRun slots t (kinds ++ kind ∷ []) v
 run_snoc slots [] t u v kind r s = (v, subst (λ (x : Table). NumberStep slots x kind v) r s, refl)
 run_snoc slots (k ∷ ks) t u v kind r s = (r.0, r.1, run_snoc slots ks r.0 u v kind r.2 s)
 
--- a run in two parts
+-- a run can be cut in two
 pub run_parts : (slots : ℕ) (first rest : List NumberStepKind) (t u : Table) → NumberRun slots t (first ++ rest) u → (mid : Table) × NumberRun slots t first mid × NumberRun slots mid rest u
 run_parts slots [] rest t u r = (t, refl, r)
 run_parts slots (k ∷ ks) rest t u r = let p = run_parts slots ks rest r.0 u r.2 in (p.0, (r.0, r.1, p.1), p.2)
 
--- what a seat knows, in the table and in the one without what was seen
+-- a seat's view is the same in the table without what was seen
 pub view_there : (views : List NumberSight) (place : ℕ) (s : NumberSight) → get_elem? views place ≡ some s → get_elem? (map (λ (x : NumberSight). x.view) views) place ≡ some s.view
 view_there [] place s e = absurd (some-ne-none s (sym e))
 view_there (x ∷ xs) zero s e = ap (λ (y : NumberSight). some y.view) (some-injective x s e)
 view_there (x ∷ xs) (suc place) s e = view_there xs place s e
 
 module _ (o : NumberOpening) (t : SeenTable) (h : Kept o t) (id : ℕ) (before : NumberSight) (at : get_elem? t.views id ≡ some before) where
-  -- the run so far is what the seat had seen, and then these steps
+  -- the steps of the run so far that the seat had not seen
   abbrev pub between : List NumberStepKind
   between = (h.seen id before at).1.0
 
   so_far : before.seen.steps ++ between ≡ h.log
   so_far = (h.seen id before at).1.1
 
-  -- what the seat sees after a step of this kind
+  -- what the seat has seen after a step of this kind
   abbrev pub now_seen : NumberStepKind → NumbersSeen
   now_seen kind = record { opening = before.seen.opening; steps = (before.seen.steps ++ between) ++ kind ∷ [] }
 
@@ -56,11 +57,11 @@ module _ (o : NumberOpening) (t : SeenTable) (h : Kept o t) (id : ℕ) (before :
   still_before : (kind : NumberStepKind) → IsBeginning o before.seen (h.log ++ kind ∷ [])
   still_before kind = let b = h.seen id before at in (b.0, prefix_more before.seen.steps h.log (kind ∷ []) b.1)
 
-  -- the table that the step leads to, without what was seen
+  -- what was seen can be left out before the step or after it: the table is the same
   same_erased : (i n : ℕ) (after : NumberSight) → erased (stepped t i n id [] after keeps) ≡ stepped (erased t) i n id [] after.view keeps
   same_erased i n after = ap (λ (l : List NumberView). let x : Table = record { words = set t.words i n; homes = t.homes; views = l } in x) (map-set (λ (s : NumberSight). s.view) t.views id after)
 
-  -- the seats' beginnings of the longer run
+  -- what each seat has seen is a beginning of the longer run
   see : (kind : NumberStepKind) (after : NumberSight) → IsBeginning o after.seen (h.log ++ kind ∷ []) → (place : ℕ) (s : NumberSight) → get_elem? (set t.views id after) place ≡ some s → IsBeginning o s.seen (h.log ++ kind ∷ [])
   see kind after mine place s e = ⊎_elim
       (λ (x : (place ≡ id) × (after ≡ s)). subst (λ (y : NumberSight). IsBeginning o y.seen (h.log ++ kind ∷ [])) x.1 mine)
@@ -79,7 +80,7 @@ module _ (o : NumberOpening) (t : SeenTable) (h : Kept o t) (id : ℕ) (before :
         shown = subst (λ (x : Table). NumbersShown o.slots o.start x) (sym is) (step_keeps o.slots o.start (erased t) kind t' h.shown step);
       }
 
-  -- the run that was seen, and then the steps between, lead to the table that the step finds
+  -- the steps that were seen, followed by the steps between, lead to the table that the step finds
   pub led_here : NumberRun before.seen.opening.slots (opened_as before.seen.opening) (before.seen.steps ++ between) (erased t)
   led_here = subst (λ (l : List NumberStepKind). NumberRun before.seen.opening.slots (opened_as before.seen.opening) l (erased t)) (sym so_far)
       (subst (λ (x : NumberOpening). NumberRun x.slots (opened_as x) h.log (erased t)) (sym (h.seen id before at).0) h.run)
@@ -87,11 +88,11 @@ module _ (o : NumberOpening) (t : SeenTable) (h : Kept o t) (id : ℕ) (before :
   pub shown_here : NumbersShown before.seen.opening.slots before.seen.opening.start (erased t)
   shown_here = subst (λ (x : NumberOpening). NumbersShown x.slots x.start (erased t)) (sym (h.seen id before at).0) h.shown
 
-  -- the same step, by the opening of the run that was seen
+  -- the step is the same with the opening that the seat has seen
   pub step_here : (kind : NumberStepKind) (t' : Table) → NumberStep o.slots (erased t) kind t' → NumberStep before.seen.opening.slots (erased t) kind t'
   step_here kind t' step = subst (λ (x : NumberOpening). NumberStep x.slots (erased t) kind t') (sym (h.seen id before at).0) step
 
-  -- a new seat, which has seen as much
+  -- a new seat is made, which has seen as much as the seat that makes it
   pub split_kept : (left right : NumberSight) (kind : NumberStepKind) → left.seen ≡ before.seen → right.seen ≡ before.seen
       → NumberStep o.slots (erased t) kind (record { words = t.words; homes = t.homes; views = set (erased t).views id left.view ++ right.view ∷ [] })
       → Kept o (record { words = t.words; homes = t.homes; views = set t.views id left ++ right ∷ [] })

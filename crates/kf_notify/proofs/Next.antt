@@ -1,4 +1,4 @@
--- Each step of a seat is the next of the one run, and says so beside its new view.
+-- Each step of a seat is the next step of the one run, and gives this fact along with the seat's new view.
 use Rattle.std.proofs.Common.{◌≡◌, ℕ, ◌+◌, ◌<◌, ◌≤◌, refl, sym, subst}
 use Rattle.std.specs.Prelude.{[], slice_index, max}
 use mathlib.Core.Option.{none, some}
@@ -16,7 +16,7 @@ use Rattle.kf_notify.specs.Next.{WasMade, MakesLoad, MakesRaise}
 use Rattle.kf_notify.proofs.Allowed.{seat_within}
 use Rattle.kf_notify.proofs.Keeps.{view_there, between, now_seen, is_now, step_kept, led_here, shown_here, step_here, split_kept}
 
--- what a step says of the one run
+-- a step was made, as the next step of the one run
 abbrev next_made : (o : NumberOpening) (t : SeenTable) (h : Kept o t) (id : ℕ) (before : NumberSight) (at : get_elem? t.views id ≡ some before) (kind : ℕ → NumberStepKind) (i n : ℕ) (w : NumberView)
     → NumberStep o.slots (erased t) (kind id) (stepped (erased t) i n id [] w keeps)
     → WasMade kind before (record { view = w; seen = now_seen o t h id before at (kind id) })
@@ -74,6 +74,6 @@ raise_made o homes id me i number near own_slot next t h _ at small =
       ((sym own_slot, refl), next_made o t h id me.0 at kind i (max n number) (raised number v) made),
     )
 
--- a seat doubled keeps the rule
+-- doubling a seat keeps the rule
 pub split_allowed : (o : NumberOpening) (id : ℕ) (s : NumberSight) → Splits (Kept o) id s s (given s)
 split_allowed o id s t h at = split_kept o t h id s at s (given s) (doubles id) refl refl (s.view, view_there t.views id s at, refl)

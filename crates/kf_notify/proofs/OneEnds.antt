@@ -1,4 +1,5 @@
--- Steps of one list from one table lead to one table: each step is told by its kind and by what it finds.
+-- A list of steps leads from one table to only one table, since each step is determined by its kind and by
+-- what it finds.
 use Rattle.std.proofs.Common.{◌≡◌, ℕ, [], ◌∷◌, ◌++◌, set, sym, ap, ◌∙◌, subst}
 use Rattle.std.specs.Prelude.{max}
 use mathlib.Core.Option.{some-injective}
@@ -9,7 +10,7 @@ use Rattle.kf_notify.specs.Steps.{loaded, raised, doubled}
 use Rattle.kf_notify.specs.TableSteps.{NumberStepKind, loads, raises, doubles, NumberStep, NumberRun}
 use Rattle.kf_notify.specs.History.{OneEnd}
 
--- a seat has one view
+-- a seat has only one view
 one_view : (t : Table) (seat : ℕ) (v w : NumberView) → IsSeated t seat v → IsSeated t seat w → v ≡ w
 one_view t seat v w a b = some-injective v w (sym a ∙ b)
 

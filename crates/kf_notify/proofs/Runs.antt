@@ -1,4 +1,4 @@
--- The laws over every run of steps.
+-- The laws about every run of steps.
 use Rattle.std.proofs.Common.{◌≡◌, ◌⊎◌, inl, inr, ⊎_elim, ℕ, suc, ◌+◌, ◌<◌, ◌≤◌, List, [], ◌∷◌, length, get_or, get_or-set_same, get_or-set_other, set, sym, ap, ◌∙◌, subst, arith}
 use Rattle.std.specs.Prelude.{max, Contains}
 use Rattle.std.proofs.lemmas.List.{set-get_or}
@@ -33,7 +33,7 @@ pub rule_kept : RuleKept
 rule_kept slots start t [] t' h run = subst (λ (u : Table). NumbersShown slots start u) (sym run) h
 rule_kept slots start t (kind ∷ kinds) t' h run = rule_kept slots start run.0 kinds t' (step_keeps slots start t kind run.0 h run.1) run.2
 
--- a step leaves a slot's number, or it is the raise that made the next
+-- a step leaves a slot's number as it is, or it is the raise that made the next number
 abbrev StaysOrRises : Table → NumberStepKind → Table → ℕ → Type 0
 StaysOrRises t kind t' slot = (number_at t' slot ≡ number_at t slot)
     ⊎ ((number_at t' slot ≡ number_at t slot + 1) × (seat : ℕ) × (kind ≡ raises seat slot (number_at t slot + 1)))
@@ -72,7 +72,7 @@ never_goes_back slots start t (kind ∷ kinds) t' h run k =
     let later = never_goes_back slots start run.0 kinds t' (step_keeps slots start t kind run.0 h run.1) run.2 k in
     omega arith
 
--- what a later step did, a step of the whole run did
+-- a raise among the later steps is a raise of the whole run
 later_too : (kind : NumberStepKind) (kinds : List NumberStepKind) (slot number : ℕ) → (seat : ℕ) × Contains kinds (raises seat slot number) → (seat : ℕ) × Contains (kind ∷ kinds) (raises seat slot number)
 later_too kind kinds slot number r = let at = r.1 in let near = at.1 in (r.0, (suc at.0, omega arith, at.2))
 

@@ -17,18 +17,19 @@ IsSeated t seat v = get_elem? t.views seat ≡ some v
 abbrev pub number_at : Table → ℕ → ℕ
 number_at t slot = slice_index t.words slot
 
--- the view of the first seat
+-- the view of the first seat at the opening
 abbrev pub opened : ℕ → NumberView
 opened start = record { slot = 0; known = 0; start = start; found = 0; made = 0; steps = 0 }
 
--- the greatest number that a seat knows is what its last load found, or the next, which it made
+-- the greatest number that a seat knows is what its last load found, or one more
 pub record KnowsNext (v : NumberView) : Type 0 where
   pub found : v.found ≤ v.known
   pub next : v.known ≤ v.found + 1
 
--- a slot's number is never below one that any seat has seen or made there, and none is below the first
+-- no slot's number is below one that any seat has seen or made there, or below the first. Each seat knows the
+-- first number, and the greatest number that it knows is what its last load found, or one more
 pub record NumbersShown (slots start : ℕ) (t : Table) : Type 0 where
-  -- for each slot a word
+  -- there is a word for each slot
   pub wide : slots ≤ length t.words
   pub first : (seat : ℕ) (v : NumberView) → IsSeated t seat v → v.start ≡ start
   pub knows : (seat : ℕ) (v : NumberView) → IsSeated t seat v → KnowsNext v

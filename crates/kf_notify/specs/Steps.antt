@@ -1,4 +1,4 @@
--- What each step makes of the view of its own seat.
+-- What each step does to the view of the seat that makes it.
 use Rattle.std.specs.Prelude.{◌≡◌, ℕ, ◌+◌, ◌≤◌}
 use Rattle.atomic_table.specs.Table.{Me, Step}
 use Rattle.kf_notify.specs.declared.sight.NumberSight.{NumberSight}
@@ -16,12 +16,12 @@ Sighted = Me (Unit {0}) NumberSight
 abbrev pub plain : Sighted → Seated
 plain me = (me.0.view, me.1)
 
--- a load found this number of the slot
+-- the view after a load that found this number of the slot
 abbrev pub loaded : ℕ → ℕ → NumberView → NumberView
 loaded slot found v =
     record { slot = slot; known = found; start = v.start; found = found; made = v.made; steps = v.steps + 1 }
 
--- the number of its slot was raised to this one
+-- the view after the number of the seat's slot was raised to this one
 abbrev pub raised : ℕ → NumberView → NumberView
 raised number v = record v { known = number; made = number; steps = v.steps + 1 }
 
@@ -29,11 +29,12 @@ raised number v = record v { known = number; made = number; steps = v.steps + 1 
 abbrev pub HasRaised : ℕ → NumberView → Type 0
 HasRaised slot v = (v.slot ≡ slot) × (v.known ≡ v.found + 1)
 
--- a new seat, which has made no number and no step
+-- the view of a new seat: it knows what the old seat knows, and has made no number and no step
 abbrev pub doubled : NumberView → NumberView
 doubled v = record v { made = 0; steps = 0 }
 
--- what a load says of the view after it: it found no less than what the seat knows of that slot
+-- what a load says: the view after it, and that it found no less than the first number, and no less than the
+-- greatest number that the seat knows, if that is of the same slot
 abbrev pub Loads : Step (Unit {0}) → Seated → ℕ → Seated → Type 0
 Loads st me found me' = (me' ≡ (loaded st.word found me.0, me.1)) × (me.0.start ≤ found)
     × (me.0.slot ≡ st.word → me.0.known ≤ found)

@@ -9,8 +9,8 @@ pub use Rattle.kf_notify.specs.declared.sight.NumberStepKind.TheVariants.{Loads 
 use Rattle.kf_notify.specs.Rule.{Table, IsSeated, number_at, opened}
 use Rattle.kf_notify.specs.Steps.{loaded, raised, doubled}
 
--- One step of the table as a whole. A seat may load the number of any slot, and raises that of the slot of
--- its last load to the next of what that load found.
+-- one step of the table as a whole. A seat may load the number of any slot. It may raise the number of the
+-- slot of its last load to at least one more than that load found. And it may make a new seat
 abbrev pub NumberStep : ℕ → Table → NumberStepKind → Table → Type 0
 NumberStep slots t (loads seat slot) t' = (v : NumberView) × IsSeated t seat v × (slot < slots)
     × (t' ≡ stepped t slot (number_at t slot) seat [] (loaded slot (number_at t slot) v) keeps)

@@ -1,7 +1,7 @@
-//! How long a wait with a limit has still to go.
+//! How much time a wait with a limit has left.
 use std::time::{Clock, Duration, Instant};
 
-/// A wait with a limit, from the moment when it began. No clause says what a clock shows.
+/// A wait with a time limit, which counts from the moment when it began. No clause says what a clock shows.
 #[derive(Clone, Copy, Drop)]
 pub struct Deadline {
     // None if the clock could not be read.
@@ -10,7 +10,7 @@ pub struct Deadline {
 }
 
 impl Deadline {
-    /// A wait of so long that begins now.
+    /// Begins a wait with this limit.
     pub fn new<R: Clock>(rt: &R, limit: Duration) -> Deadline {
         Deadline {
             start: Instant::now(rt).ok(),
@@ -18,7 +18,8 @@ impl Deadline {
         }
     }
 
-    /// How long it has still to go; None if it is over. A clock that cannot be read ends it.
+    /// Returns how much time is left, or None if the wait is over. If the clock cannot be read, the wait is
+    /// over.
     pub fn left<R: Clock>(&self, rt: &R) -> Option<Duration> {
         let past = self.start?.elapsed(rt).ok()?;
         let left = self.limit.saturating_sub(past);

@@ -5,8 +5,8 @@ ghost use Rattle.kf_notify.specs.Laws.{StaysRaised, LaterIsGreater};
 ghost use Rattle.kf_notify.specs.History.{OpensKept, EndsARun, SeenLeadsHere, RaisedEverAfter, FirstOrRaised};
 ghost use Rattle.kf_notify.specs.History.{OneRunIsSeen, OneEnd};
 
-/// What the words say between any two steps of any number of posts, for as long as the table lives. It does
-/// nothing: the rule of the table, which each step keeps, is the premise.
+/// What the words say between any two steps of any number of posts, as long as the table lives. The function
+/// does nothing. The premise of its clauses is the rule of the table, which each step keeps.
 ///
 /// A slot's number is never below one that any post has seen or made there, nor below the first.
 pub fn numbers_tell()
@@ -14,12 +14,14 @@ pub fn numbers_tell()
     ensures never_below_the_first { NeverBelowTheFirst }
 {}
 
-/// What holds over every run of steps of any number of posts and handles, in any order. It does nothing.
+/// What holds over every run of steps of any number of posts and handles, in any order. The function does
+/// nothing.
 ///
-/// The table opens with the rule, and each step keeps it. No slot's number ever goes back, and none is
-/// skipped: each number that a slot's word has reached was made by a raise of that number on that slot. It
-/// never falls below what it was raised to. So a notify that begins where another of its slot has ended makes
-/// a greater number; only notifies that overlap may make the same.
+/// The table meets the rule at its opening, and each step keeps the rule. No slot's number ever goes back,
+/// and none is skipped: each number that a slot's word has reached was made by a raise to that number, on
+/// that slot. A slot's number never falls below what it was raised to. So a notify that begins after another
+/// notify of the same slot has ended makes a greater number. Only notifies that overlap may make the same
+/// number.
 pub fn numbers_run()
     ensures opens_well { OpensWell }
     ensures rule_kept { RuleKept }
@@ -29,15 +31,15 @@ pub fn numbers_run()
     ensures later_is_greater { LaterIsGreater }
 {}
 
-/// What the rule of the table keeps of the one run, between any two steps, whatever the seats do. It does
-/// nothing: the rule is the premise.
+/// What the rule of the table says of the one run between any two steps, whatever the seats do. The function
+/// does nothing. The premise of its clauses is the rule.
 ///
-/// The table opens with the rule, and is always at the end of a run of `numbers_run` from its opening. What a
-/// seat has seen is a beginning of that run: it leads to a table that met the rule, and from there the run
-/// went on to the table as it is, and took no number back. A number to which a slot's was raised at any
-/// moment of the run is not above it now. A slot's number is the first, or was raised to just this. Of two
-/// seats, one has seen as much as the other or more. Steps of one list lead to one table, so what a seat has
-/// seen names that table.
+/// The table meets the rule at its opening. At each later moment it is at the end of a run from its opening,
+/// as in `numbers_run`. What a seat has seen is a beginning of that run. This beginning leads to a table that
+/// met the rule. From there the run went on to the table as it is, and no number went back. If a slot's
+/// number was raised to some number at any moment of the run, it is not below that number now. A slot's
+/// number is the first one, or it was raised to exactly this number. Of two seats, one has seen at least as
+/// much as the other. The same steps lead to the same table, so what a seat has seen determines that table.
 pub fn numbers_kept()
     ensures opens_kept { OpensKept }
     ensures ends_a_run { EndsARun }

@@ -1,4 +1,4 @@
-//! The kinds of step on the table of numbers: what each makes of the view of the seat that steps.
+//! The kinds of steps on the table of numbers, and what each does to the view of the seat that makes it.
 use crate::sight::NumberSight;
 use atomic_table::{Play, Split};
 
@@ -11,7 +11,7 @@ impl Play<(), NumberSight> for Loads {
     ghost then = { MakesLoad };
 }
 
-/// A seat raises the number of its slot to at least the one that it makes.
+/// A seat makes a number: it raises the number of its slot to at least that one.
 pub(crate) struct Raises;
 
 impl Play<(), NumberSight> for Raises {
@@ -20,7 +20,7 @@ impl Play<(), NumberSight> for Raises {
     ghost then = { MakesRaise };
 }
 
-/// A new seat knows what the old one knows, which stays as it was.
+/// A seat makes a new seat, which knows what the old one knows. The old seat stays as it was.
 pub(crate) struct Doubles;
 
 impl Split<NumberSight> for Doubles {

@@ -9,14 +9,14 @@ use std::marker::Model;
 use std::sync::Wait;
 use std::time::{Clock, Duration};
 
-/// The event number is at its last, 2^64 - 1. Only a notify that found it so makes this value.
+/// The error of a notify that found the last event number, 2^64 - 1. Only such a notify makes this value.
 #[derive(Clone, Copy, Debug, PartialEq, Eq)]
 pub struct Full {
     last: (),
 }
 
 impl Full {
-    /// For a notify that has just found the last number.
+    /// Makes the error, for a notify that has just found the last number.
     pub(crate) fn found() -> Full {
         Full { last: () }
     }
@@ -47,7 +47,8 @@ impl Post {
         Post { seat, slot }
     }
 
-    /// The slot's event number, as one load finds it: no less than all that this post has seen or made.
+    /// Loads the slot's event number once, and returns it. It is not below any number that this post has seen
+    /// or made.
     pub fn now(&mut self) -> u64
         ensures same { IsSamePost self.old self.new }
         ensures found { FoundNumber self.old result self.new }
@@ -57,10 +58,11 @@ impl Post {
         self.seat.load(self.slot)
     }
 
-    /// Raises the slot's event number to one more than a load found, which is above all that this post had
-    /// seen or made, and returns it (`kernfs_notify`). A thread that waits for it to change is woken; if
-    /// nobody sleeps that makes no system call. `Full` if the number found is 2^64 - 1, and then nothing
-    /// changes.
+    /// Raises the slot's event number to one more than a load found, unless it is that high already, and
+    /// returns that number (`kernfs_notify`). The returned number is above all that this post had seen or
+    /// made. All threads that wait for the slot's number to change are woken. The wake makes no system call
+    /// if nobody sleeps there and there is no `Watch`. If the load found 2^64 - 1, the call fails with
+    /// `Full`, and then no number changes.
     pub fn notify(&mut self) -> Result<u64, Full>
         ensures same { IsSamePost self.old self.new }
         ensures made { IfOk result (λ number. Made self.old number self.new) }
@@ -76,7 +78,7 @@ impl Post {
         Ok(number)
     }
 
-    /// As [`Post::notify`], but it wakes nobody: for a caller that has sleepers of its own, and none in
+    /// Like [`Post::notify`], but wakes nobody. It is for a caller whose threads sleep elsewhere, and not in
     /// [`Post::wait_past`].
     pub fn notify_quiet(&mut self) -> Result<u64, Full>
         ensures same { IsSamePost self.old self.new }
@@ -96,7 +98,7 @@ impl Post {
         Ok(found + 1)
     }
 
-    /// Waits until the slot's number is not `seen`, and returns it. It may never return.
+    /// Waits until the slot's number is not `seen`, and returns the number. The call may never return.
     ///
     /// Context: sleeps; takes no lock.
     pub fn wait_past<R: Wait>(&mut self, rt: &R, seen: u64) -> u64
@@ -115,7 +117,8 @@ impl Post {
         unreachable!()
     }
 
-    /// As [`Post::wait_past`], for at most this long: None if the number that was found last is `seen`.
+    /// Like [`Post::wait_past`], but waits for at most `limit`. Returns None if the number that was found
+    /// last is `seen`.
     ///
     /// Context: sleeps; takes no lock.
     pub fn wait_past_for<R: Wait + Clock>(
@@ -142,15 +145,15 @@ impl Post {
         unreachable!()
     }
 
-    /// Sleeps while the slot's number is `seen`, until a notify of the slot, and may return for no reason:
-    /// no clause says why it did.
+    /// Sleeps until a notify of the slot that is not a [`Post::notify_quiet`], if the slot's number is still
+    /// `seen`. It may also return for no reason: no clause says why it returned.
     ///
     /// Context: sleeps; takes no lock.
     pub fn rest<R: Wait>(&self, rt: &R, seen: u64) {
         self.seat.park(rt, self.slot, seen);
     }
 
-    /// As [`Post::rest`], for at most this long.
+    /// Like [`Post::rest`], but sleeps for at most `limit`.
     ///
     /// Context: sleeps; takes no lock.
     pub fn rest_for<R: Wait>(&self, rt: &R, seen: u64, limit: Duration) {

@@ -44,9 +44,10 @@ impl PostSeat {
             .load::<Loads>(&mut self.token, slot as usize)
     }
 
-    /// Raises the number of its slot to this one, if it is below.
+    /// Raises the number of the seat's slot to `number`, if it is below that.
     ///
-    /// Condition: it is the next of what the seat's last load found there. So no number is skipped.
+    /// Condition: the seat's last load was of this slot, and `number` is one more than it found. So no number
+    /// is skipped.
     pub(crate) fn raise(&mut self, slot: u32, number: u64)
         requires slot { slot < self.old.slots }
         requires own { self.old.token.me.0.view.slot ≡ slot }
@@ -62,9 +63,9 @@ impl PostSeat {
             .fetch_max::<Raises>(&mut self.token, slot as usize, number);
     }
 
-    /// A new seat, which knows what this one knows and has seen as much, and has made no number.
+    /// Makes a new seat, which knows and has seen what this one knows and has seen, but has made no number.
     ///
-    /// Refusal: `NoMemory` where sharing the table was refused, and then nothing changes.
+    /// Refusal: `NoMemory` if sharing the table was refused, and then nothing changes.
     pub(crate) fn another(&mut self) -> Result<PostSeat, Refusal>
         ensures same { self.new.slots ≡ self.old.slots }
         ensures table { self.new.token.table_id ≡ self.old.token.table_id }

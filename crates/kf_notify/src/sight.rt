@@ -1,6 +1,6 @@
 //! The one run of all steps at a table of numbers, and what each seat has seen of it. The rule of the table
-//! speaks of these types, so they are types of the code, but no value of a `NumberSight` or a
-//! `NumberStepKind` is ever made.
+//! mentions these types, so the code declares them. But no value of a `NumberSight` or a `NumberStepKind` is
+//! ever made.
 use crate::view::NumberView;
 use std::collections::LinkedList;
 
@@ -11,8 +11,8 @@ pub struct NumberOpening {
     pub start: u64,
 }
 
-/// What a seat, by its number, does: it loads the number of a slot, raises that of its slot to this one, or
-/// gets a new seat beside it.
+/// What the seat with this number does in one step. It loads the number of a slot, raises the number of its
+/// slot to `number`, or makes a new seat.
 pub enum NumberStepKind {
     Loads { seat: u64, slot: u32 },
     Raises { seat: u64, slot: u32, number: u64 },

@@ -9,9 +9,9 @@ use kf_core::Refusal;
 use std::alloc::Global;
 use std::sync::atomic::AtomicU64;
 
-/// The rule of the table, between any two steps: a run of the steps of its seats leads here from the opening,
-/// each seat has seen a beginning of it, and no slot's number is below one that a seat has seen or made
-/// there.
+/// The rule of the table, which holds between any two steps. A run of the steps of its seats leads from the
+/// opening to the table as it is, and each seat has seen a beginning of that run. No slot's number is below
+/// one that a seat has seen or made there.
 pub struct NumberRule;
 
 impl TableRule<(), NumberSight, NumberOpening> for NumberRule {
@@ -24,9 +24,9 @@ impl TableRule<(), NumberSight, NumberOpening> for NumberRule {
 
 pub(crate) type NumberTable = Table<(), NumberSight, NumberOpening, NumberRule, Global>;
 
-/// The numbers of all slots, and beside them for each how many threads sleep on it, and how many watch
-/// several. No clause speaks of these counts: threads that sleep and threads that wake read them, and nobody
-/// else.
+/// The numbers of all slots. Beside each number there is a count of the threads that sleep on it, and beside
+/// the table the counts for threads that watch several slots. No clause says what these counts are. Only
+/// threads that sleep, watch or wake others use them.
 #[derive(Drop)]
 pub struct SlotTable {
     pub(crate) numbers: NumberTable,
@@ -34,7 +34,7 @@ pub struct SlotTable {
     pub(crate) watchers: Watchers,
 }
 
-/// For this many slots a count of sleepers, each 0.
+/// Makes a count of sleepers for each of this many slots. Each count is 0.
 ///
 /// Refusal: `NoMemory`.
 pub(crate) fn nobody_asleep(alloc: Global, slots: u32) -> Result<Vec<AtomicU64>, Refusal>

@@ -1,18 +1,19 @@
 //! Waiting for the first of several slots to change.
 //!
-//! Numbers are raised often, and few threads wait for several slots at once. So a notify loads one count,
-//! and only if it is not zero it does more. A thread that watches (1) adds itself to that count, and then,
-//! again and again, (2) loads the number of changes, (3) looks at its slots, and (4) sleeps if that number
-//! is still what it was. A notify (5) raises the number of its slot, (6) loads the count, and if it is not
-//! zero, (7) raises the number of changes and wakes all threads that sleep on it. Each of these is
-//! sequentially consistent.
+//! Numbers are raised often, and few threads wait for several slots at once. So a notify loads one count, and
+//! does more only if that count is not zero. A thread that watches first (1) adds itself to the count. Then
+//! it repeats three steps: it (2) loads the number of changes, (3) looks at its slots, and (4) sleeps if the
+//! number of changes is still the same. A notify (5) raises the number of its slot and (6) loads the count.
+//! If the count is not zero, the notify (7) raises the number of changes and wakes all threads that sleep on
+//! that number. Each of these steps is sequentially consistent.
 //!
-//! If (3) does not find the raise, it comes before (5). Then (1) comes before (6), which finds the thread
-//! counted. And (2) comes before (7), so either (4) finds another number and does not sleep, or the thread
-//! is in the kernel's queue when (7) wakes all. 2^32 changes between (2) and (4) would be taken for none.
+//! If (3) does not find the raise, then (3) comes before (5). So (1) comes before (6), which finds the thread
+//! counted. And (2) comes before (7). So either (4) finds that the number of changes is different and does
+//! not sleep, or the thread is in the kernel's queue when (7) wakes all. But if 2^32 changes came between (2)
+//! and (4), then (4) would take them for none.
 //!
-//! No rule sees these two words: `tools/unseen_steps` says where they may be loaded, and
-//! `tests/models/wake.py` tries each order of these steps.
+//! The rule of the table does not mention these two words. `tools/unseen_steps` lists the places that may
+//! load them, and `tests/models/watch.py` tries each order of these steps.
 
 use crate::posts::Posts;
 use std::sync::Wait;
@@ -20,7 +21,7 @@ use std::sync::atomic::AtomicU64;
 use std::sync::atomic::Ordering::SeqCst;
 use std::time::Duration;
 
-/// How many threads watch the slots of a table, and how often a notify found one.
+/// How many threads watch the slots of a table, and how often a notify found such a thread.
 #[derive(Drop)]
 pub(crate) struct Watchers {
     watching: AtomicU64,
@@ -28,7 +29,7 @@ pub(crate) struct Watchers {
 }
 
 impl Watchers {
-    /// Nobody watches.
+    /// The counts while nobody watches.
     pub(crate) fn new() -> Watchers {
         Watchers {
             watching: AtomicU64::new(0),
@@ -36,7 +37,7 @@ impl Watchers {
         }
     }
 
-    /// Lets each thread that watches look again. Its caller has raised a number.
+    /// Makes each thread that watches look at its slots again. The caller has raised a number.
     pub(crate) fn wake(&self) {
         if self.watching.load(SeqCst) != 0 {
             self.changes.fetch_add(1, SeqCst);
@@ -45,11 +46,11 @@ impl Watchers {
     }
 }
 
-/// A wait for the first of several slots, by one thread, as `poll(2)` waits for several files. A notify of
-/// any slot of the same numbers ends its rest.
+/// A wait by one thread for the first of several slots to change, as `poll(2)` waits for several files. A
+/// notify of any slot of the same numbers ends its [`Watch::rest`], unless it is a `Post::notify_quiet`.
 ///
-/// Take `seen`, look at each slot, and if none has changed, rest: nothing that changed after the look is
-/// missed.
+/// Call `seen`, look at each slot, and if none has changed, call `rest`. A change that comes after a look is
+/// not missed.
 ///
 /// ```text
 /// let watch = posts.watch();
@@ -62,13 +63,14 @@ impl Watchers {
 /// }
 /// ```
 ///
-/// While it is there each notify costs a system call, so drop it when the wait is over.
+/// As long as a `Watch` exists, each notify of these numbers makes a system call. So drop it when the wait is
+/// over.
 pub struct Watch<'a> {
     watchers: &'a Watchers,
 }
 
 impl Posts {
-    /// Begins a wait for the first of several slots of these numbers. Other threads may have a watch too.
+    /// Begins a wait for the first of several of these slots to change. Other threads may have a watch too.
     pub fn watch(&self) -> Watch<'_> {
         let watchers = self.watchers();
         watchers.watching.fetch_add(1, SeqCst);
@@ -77,20 +79,20 @@ impl Posts {
 }
 
 impl Watch<'_> {
-    /// How many changes there were. Take this before you look at the slots.
+    /// Returns how many changes there were. Call this before you look at the slots.
     pub fn seen(&self) -> u64 {
         self.watchers.changes.load(SeqCst)
     }
 
-    /// Sleeps until a notify of any slot if there was none since `seen`, and may return for no reason: no
-    /// clause says why it did.
+    /// Sleeps until a notify of any slot, if there was none since [`Watch::seen`] returned `seen`. It may
+    /// also return for no reason: no clause says why it returned.
     ///
     /// Context: sleeps; takes no lock.
     pub fn rest<R: Wait>(&self, rt: &R, seen: u64) {
         self.watchers.changes.park(rt, (seen & 0xffff_ffff) as u32);
     }
 
-    /// As [`Watch::rest`], for at most this long.
+    /// Like [`Watch::rest`], but sleeps for at most `limit`.
     ///
     /// Context: sleeps; takes no lock.
     pub fn rest_for<R: Wait>(&self, rt: &R, seen: u64, limit: Duration) {
@@ -101,7 +103,7 @@ impl Watch<'_> {
 }
 
 impl Drop for Watch<'_> {
-    /// Notifies need not look for this thread any more.
+    /// Takes the thread off the count, so that notifies no longer have to wake it.
     fn drop(self) {
         let Watch { watchers } = self;
         watchers.watching.fetch_sub(1, SeqCst);

@@ -1,10 +1,10 @@
--- What a read returns, stated from what it shows.
+-- What a read returns, stated in terms of what its callback shows.
 use Rattle.std.proofs.Common.{◌≡◌, ℕ, sym, subst, refl, List, ◌++◌, length, drop, Result, Ok, Err}
 use Rattle.kf_core.specs.Calls.{Visit}
 use Rattle.kf_pages.specs.declared.ops.FileError.{FileError}
 use Rattle.kf_pages.specs.Files.{FileState, Gives, Reads, ShowResult}
 
--- what is said of a read's result may be said otherwise
+-- if one statement about the result of a read follows from another, it may take the place of the other
 pub reads_answered : {V : Visit ShowResult → Type 0} {A A' : Result (List ℕ) FileError → Type 0} {state state' : FileState} {offset count : ℕ}
     → ((answer : Result (List ℕ) FileError) → A answer → A' answer) → Reads V A state offset count state' → Reads V A' state offset count state'
 reads_answered f r = record {

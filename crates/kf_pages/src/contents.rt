@@ -1,4 +1,4 @@
-//! What an open file keeps of the text that it was shown.
+//! What an open file keeps from one operation to the next, such as the text of its last show.
 
 ghost use Rattle.std.specs.Prelude.{◌≡◌, ◌<◌, ◌≤◌, ℕ, List, Result, None, Some, false, length, ◌⊎◌, IsTrue, IsSome, IfOk};
 ghost use Rattle.kf_core.specs.Calls.{GivenBack};
@@ -17,9 +17,9 @@ use std::marker::Model;
 /// What a file is opened for.
 #[derive(Clone, Copy, Debug, PartialEq, Eq)]
 pub struct Want {
-    /// Reads are allowed, if the mode has a bit of 0o444.
+    /// The file is opened for reading. That needs a bit of 0o444 in the node's mode.
     pub read: bool,
-    /// Writes are allowed, if the mode has a bit of 0o222.
+    /// The file is opened for writing. That needs a bit of 0o222 in the node's mode.
     pub write: bool,
 }
 
@@ -44,11 +44,11 @@ impl Want {
 }
 
 /// What an open file keeps (`struct kernfs_open_file`): what it was opened for, its page, and the event
-/// number that was taken for its last show.
+/// number that was taken for its last show, or for its last read of a binary attribute.
 #[derive(Drop)]
 pub struct Contents<P: PageHolder> {
     want: Want,
-    // A show fills it in place, so a text is copied only to those who read it.
+    // A show fills the page in place, so a text is copied only into the buffers of its readers.
     page: P,
     has_text: bool,
     number: u64,
@@ -68,7 +68,7 @@ impl<P: PageHolder> Model for Contents<P> {
 }
 
 impl<P: PageHolder> Contents<P> {
-    /// Those of a file that was just opened. What stands on the page does not matter.
+    /// Makes the contents of a file that was just opened. What is on the page does not matter.
     pub fn new(want: Want, page: P) -> Contents<P>
         ensures new { result ≡ new_file want }
     {
@@ -87,7 +87,7 @@ impl<P: PageHolder> Contents<P> {
         self.want
     }
 
-    /// The event number that was taken for the last show.
+    /// The event number that was taken for the last show, or for the last read of a binary attribute.
     pub fn number(&self) -> u64
         ensures known { result ≡ self.now.number }
     {
@@ -110,7 +110,7 @@ impl<P: PageHolder> Contents<P> {
         self.has_text
     }
 
-    /// At most this many bytes of the buffered text from the offset on.
+    /// Returns at most `most` bytes of the buffered text, from the offset on.
     ///
     /// Condition: there is a text.
     pub fn text_from(&self, offset: u64, most: usize) -> &[u8]
@@ -123,8 +123,8 @@ impl<P: PageHolder> Contents<P> {
         &rest[..rest.len().min(most)]
     }
 
-    /// Keeps the event number that was taken for a show, and forgets the text: the first half of a show that
-    /// the caller makes.
+    /// Keeps the event number that was taken for a show, and forgets the text. This is the first half of a
+    /// show that the caller makes.
     pub fn begin_show(&mut self, number: u64)
         ensures begun { self.new ≡ record self.old { text = None; number = number } }
     {
@@ -132,14 +132,14 @@ impl<P: PageHolder> Contents<P> {
         self.has_text = false;
     }
 
-    /// Whether the event number is another now than the one that was taken for the last show.
+    /// Whether the event number `now` differs from the one that the file keeps.
     pub fn is_changed(&self, now: u64) -> bool
         ensures told { result ≡ is_changed self.now (Some now) }
     {
         now != self.number
     }
 
-    /// The page.
+    /// Returns the page.
     pub(crate) fn into_page(self) -> P {
         let Contents {
             want: _,
@@ -150,7 +150,8 @@ impl<P: PageHolder> Contents<P> {
         page
     }
 
-    /// Takes the event number, then shows the text anew on the page, and keeps both. A fault leaves no text.
+    /// Takes the event number, then shows the text anew on the page, and keeps both. After a fault there is
+    /// no text.
     pub(crate) fn show<C: ActiveCall, O: Ops<C>, N: EventNumbers<C>>(
         &mut self,
         ops: &mut O,
@@ -172,7 +173,8 @@ impl<P: PageHolder> Contents<P> {
         Ok(())
     }
 
-    /// Takes the event number, and keeps it; then reads bytes from the offset on, if there is room for any.
+    /// Takes the event number and keeps it. Then it reads bytes from the offset on, if `out` has room for
+    /// any.
     pub(crate) fn read_at<C: ActiveCall, B: BinaryOps<C>, N: EventNumbers<C>>(
         &mut self,
         ops: &mut B,
@@ -207,8 +209,8 @@ fn put(page: &mut Page, bytes: &[u8])
 }
 
 impl Contents<Page> {
-    /// Keeps the first 4,095 bytes of the text that was shown: the second half of a show that the caller
-    /// made.
+    /// Keeps the first 4,095 bytes of the text that was shown. This is the second half of a show that the
+    /// caller made.
     pub fn end_show(&mut self, shown: &[u8])
         ensures shown { self.new ≡ record self.old { text = Some (text_of shown.now) } }
     {

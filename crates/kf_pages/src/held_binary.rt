@@ -1,4 +1,5 @@
-//! Reads and writes at an offset of a file that was opened by a hold: a binary attribute, which has no page.
+//! Reads and writes at an offset of a file that was opened with a hold: a binary attribute, which has no
+//! page.
 
 ghost use Rattle.std.specs.Prelude.{◌≡◌, ◌≤◌, length, IfOk};
 ghost use Rattle.kf_core.specs.Calls.{Visits, GivenBack};
@@ -14,7 +15,7 @@ use crate::ops::{Fault, FileError};
 use crate::page_holder::PageHolder;
 use kf_core::{ActiveCall, Guard, Refusal};
 
-/// Hands the bytes to one write at the offset, if there are any.
+/// Passes the bytes to one write at the offset, if there are any.
 fn write_some<C: ActiveCall, B: BinaryOps<C>>(
     ops: &mut B,
     call: &mut C,
@@ -34,12 +35,13 @@ fn write_some<C: ActiveCall, B: BinaryOps<C>>(
 }
 
 impl<G: Guard, P: PageHolder> HeldFile<G, P> {
-    /// Reads bytes from the offset on into the front of `out`, by one read of a binary attribute under a
-    /// call, after its event number was taken, and returns how many it says they are, a fault as `Callback`
-    /// (`sysfs_kf_bin_read`). A read into no room returns 0 and calls nothing, but it needs a live node
-    /// too. No text is kept, and what is buffered stays.
+    /// Reads bytes from the offset on into the front of `out`, by one read of a binary attribute
+    /// (`sysfs_kf_bin_read`). It first takes the event number, which the file keeps; both are done under a
+    /// call. It returns how many bytes the callback says it read, or the callback's fault as `Callback`. If
+    /// `out` has no room, it returns 0 and makes no callback, but it needs a live node too. The text of such
+    /// a read is not kept, and a buffered text stays.
     ///
-    /// Condition: the file's hold may try, as it may after `open` and after each call here.
+    /// Condition: the file's hold may try for a reference, which `open` and each function here ensure.
     ///
     /// Refusals, in order: `Access` if the file was not opened for reading, `NoDevice` if the node is
     /// not live; both change nothing.
@@ -85,11 +87,11 @@ impl<G: Guard, P: PageHolder> HeldFile<G, P> {
         }
     }
 
-    /// Hands all the bytes to one write of a binary attribute at the offset under a call, and returns what
-    /// it returns, a fault as `Callback` (`sysfs_kf_bin_write`). A write of no bytes returns 0 and calls
-    /// nothing, but it needs a live node too. The file stays as it was.
+    /// Passes all the bytes to one write of a binary attribute at the offset, under a call. It returns what
+    /// the callback returned, a fault as `Callback` (`sysfs_kf_bin_write`). A write of no bytes returns 0 and
+    /// makes no callback, but it needs a live node too. The file stays as it was.
     ///
-    /// Condition: the file's hold may try, as it may after `open` and after each call here.
+    /// Condition: the file's hold may try for a reference, which `open` and each function here ensure.
     ///
     /// Refusals, in order: `Access` if the file was not opened for writing, `NoDevice` if the node is
     /// not live.

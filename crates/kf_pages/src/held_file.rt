@@ -1,4 +1,4 @@
-//! A file opened by a hold on its node, over anything that gives event numbers and holds its page.
+//! A file opened with a hold of its node, over any source of event numbers and any holder of its page.
 
 ghost use Rattle.std.specs.Prelude.{◌≡◌, ◌≤◌, ℕ, length, IsSome, IfOk, OnOk};
 ghost use Rattle.kf_core.specs.Calls.{Visits, GivenBack};
@@ -14,9 +14,9 @@ use crate::page_holder::PageHolder;
 use kf_core::{ActiveCall, Guard, Node, Refusal};
 use std::marker::Model;
 
-/// A file opened by a hold on its node (`struct kernfs_open_file`). It keeps the hold and the page that it
-/// was given until it is closed. What gives the event numbers of its slot lies elsewhere, and is lent to each
-/// call that may take one.
+/// A file opened with a hold of its node (`struct kernfs_open_file`). It keeps the hold and the page that
+/// were passed in, until it is closed. The source of its slot's event numbers lies outside the file. Each
+/// function that may take a number borrows the source.
 #[derive(Drop)]
 pub struct HeldFile<G: Guard, P: PageHolder> {
     // Empty only while a call has the hold.
@@ -41,8 +41,9 @@ fn allows(mode: u16, want: Want) -> bool
     (!want.read || mode & 0o444 != 0) && (!want.write || mode & 0o222 != 0)
 }
 
-/// Whether a file of this node may be opened as wanted: one try of the hold, which comes back. It returns the
-/// node's tag, or why not. (The page is not here: each way out of a function moves what it has by value.)
+/// Tests whether a file of this node may be opened as wanted, with at most one try of the hold. It returns
+/// the hold with the node's tag, or with the reason for the refusal. (The page is not an argument, since each
+/// way out of a function would have to move it by value.)
 fn try_open<G: Guard>(
     guard: &mut G,
     hold: G::Hold,
@@ -91,13 +92,15 @@ fn store_front<C: ActiveCall, O: Ops<C>>(
 }
 
 impl<G: Guard, P: PageHolder> HeldFile<G, P> {
-    /// Opens a file whose node is live (`kernfs_fop_open`). It starts with no text and the event number 0.
+    /// Opens a file whose node is live (`kernfs_fop_open`). The file starts with no text and the event number
+    /// 0.
     ///
-    /// Condition: the hold may try, as each call of a guard ensures of a hold that it gives back.
+    /// Condition: the hold may try for a reference, which each function of a guard ensures of a hold that it
+    /// returns.
     ///
-    /// Refusals, in order: `IsDir` a directory, `Invalid` a link, `NoDevice` a node that is not live,
-    /// `Access` reading if the mode has no bit of 0o444, or writing if it has none of 0o222.
-    /// A refusal gives the hold and the page back.
+    /// Refusals, in order: `IsDir` (a directory), `Invalid` (a link), `NoDevice` (the node is not live),
+    /// `Access` (reading if the mode has no bit of 0o444, or writing if it has none of 0o222). After a
+    /// refusal, the hold and the page are returned.
     pub fn open(
         guard: &mut G,
         hold: G::Hold,
@@ -124,16 +127,16 @@ impl<G: Guard, P: PageHolder> HeldFile<G, P> {
         }
     }
 
-    /// Reads the text from the offset on, in bytes, into the front of `out`, and returns how many bytes that
-    /// are (`kernfs_fop_read_iter`). At offset 0, and if no text is buffered, the text is shown anew under
-    /// a call, after its event number was taken. Else it is the buffered text, which needs no live node and
+    /// Reads the text, from this byte offset on, into the front of `out`, and returns how many bytes it read
+    /// (`kernfs_fop_read_iter`). At offset 0, or if no text is buffered, it shows the text anew under a call,
+    /// after it took the event number. Otherwise it reads the buffered text, which needs no live node and
     /// takes no number.
     ///
-    /// Condition: the file's hold may try, as it may after `open` and after each call here.
+    /// Condition: the file's hold may try for a reference, which `open` and each function here ensure.
     ///
-    /// Refusals, in order: `Access` if the file was not opened for reading, `NoDevice` if the node is
-    /// not live; both change nothing. A fault of show is returned as `Callback`, and leaves no text. The rest
-    /// of `out` stays, and all of it after an error.
+    /// Refusals, in order: `Access` if the file was not opened for reading, `NoDevice` if the node is not
+    /// live; both change nothing. A fault of the show is returned as `Callback`, and then there is no text.
+    /// The rest of `out` stays as it was, and all of it does after an error.
     pub fn read<O: Ops<G::Call>, N: EventNumbers<G::Call>>(
         &mut self,
         guard: &mut G,
@@ -164,7 +167,7 @@ impl<G: Guard, P: PageHolder> HeldFile<G, P> {
         }
     }
 
-    /// Sees to the text of a read at this offset, which [`HeldFile::text_from`] then gives: the first half of
+    /// Makes the text of a read at this offset ready for [`HeldFile::text_from`]. This is the first half of
     /// [`HeldFile::read`], with its condition and its refusals, for a caller that has no buffer.
     pub fn prepare<O: Ops<G::Call>, N: EventNumbers<G::Call>>(
         &mut self,
@@ -195,7 +198,7 @@ impl<G: Guard, P: PageHolder> HeldFile<G, P> {
         self.show(guard, ops, numbers)
     }
 
-    /// At most this many bytes of the buffered text from the offset on.
+    /// Returns at most `most` bytes of the buffered text, from the offset on.
     ///
     /// Condition: a text is buffered, as it is after `prepare` returned Ok.
     pub fn text_from(&self, offset: u64, most: usize) -> &[u8]
@@ -239,11 +242,11 @@ impl<G: Guard, P: PageHolder> HeldFile<G, P> {
         shown
     }
 
-    /// Hands the first 4,096 bytes to one store under a call, and returns what it returns, a fault as
-    /// `Callback` (`kernfs_fop_write_iter`). A write of no bytes returns 0 and calls nothing, but it needs a
-    /// live node too. The file stays as it was.
+    /// Passes the first 4,096 bytes to one store under a call, and returns what the store returned, a fault
+    /// as `Callback` (`kernfs_fop_write_iter`). A write of no bytes returns 0 and makes no callback, but it
+    /// needs a live node too. The file stays as it was.
     ///
-    /// Condition: the file's hold may try, as it may after `open` and after each call here.
+    /// Condition: the file's hold may try for a reference, which `open` and each function here ensure.
     ///
     /// Refusals, in order: `Access` if the file was not opened for writing, `NoDevice` if the node is
     /// not live.
@@ -282,11 +285,12 @@ impl<G: Guard, P: PageHolder> HeldFile<G, P> {
         }
     }
 
-    /// Whether the file has changed since its last show (`kernfs_fop_poll`): the slot's event number, taken
-    /// under a call, is another, or the node is not live. A file that was never shown has the number 0, so it
-    /// has changed where numbers begin at 1 or more. The number that the file keeps stays.
+    /// Returns whether the file has changed since its last show or binary read (`kernfs_fop_poll`). It has
+    /// changed if the slot's event number, taken under a call, differs from the one that the file keeps, or
+    /// if the node is not live. Before its first show or binary read a file has the number 0, so it has
+    /// changed if event numbers begin at 1 or more. The number that the file keeps stays.
     ///
-    /// Condition: the file's hold may try, as it may after `open` and after each call here.
+    /// Condition: the file's hold may try for a reference, which `open` and each function here ensure.
     pub fn poll<N: EventNumbers<G::Call>>(&mut self, guard: &mut G, numbers: &mut N) -> bool
         requires may_enter { G.may_enter guard.old self.old.hold }
         ensures polls { Polls
@@ -314,14 +318,14 @@ impl<G: Guard, P: PageHolder> HeldFile<G, P> {
         }
     }
 
-    /// The event number that was taken for its last show; 0 before the first.
+    /// The event number that was taken for the file's last show or binary read, or 0 before the first.
     pub fn number(&self) -> u64
         ensures known { result ≡ self.now.state.number }
     {
         self.contents.number()
     }
 
-    /// Gives the hold and the page back (`kernfs_fop_release`).
+    /// Closes the file, and returns its hold and its page (`kernfs_fop_release`).
     pub fn close(self) -> (G::Hold, P)
         ensures hold { result.0 ≡ self.hold }
     {

@@ -1,4 +1,4 @@
-//! The place in a file that has its hold.
+//! The place in a file that keeps its hold.
 
 ghost use Rattle.std.specs.Prelude.{◌≡◌, Some, None};
 

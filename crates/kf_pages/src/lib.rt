@@ -1,14 +1,15 @@
-//! Files that are opened by a hold, over any guard: their pages, and the callbacks that show and store.
+//! Files that are opened with a hold, over any guard: their pages, and the callbacks that show and store.
 //!
 //! - `HeldFile` is an open file. It keeps its hold and its `Contents`, and makes each callback under a call
-//!   that it gets from the guard. What gives the event numbers of its slot (`EventNumbers`) lies elsewhere,
-//!   and is lent to it.
-//! - `Contents` is what a file keeps, for a program that makes each show in two halves.
-//! - `Ops` and `BinaryOps` are the callbacks: yours. They return bytes or a `Fault`.
-//! - A `Page` is 4,096 bytes; a program that opens many files lends its own pages (`PageHolder`).
+//!   that it gets from the guard. The source of its slot's event numbers (`EventNumbers`) lies outside the
+//!   file, which borrows it.
+//! - `Contents` is what a file keeps. It is public for programs that make each show in two halves.
+//! - `Ops` and `BinaryOps` are the callbacks, which you write. They return bytes or a `Fault`.
+//! - A `Page` has room for 4,096 bytes. A program that opens many files can pass in its own pages
+//!   (`PageHolder`), and gets them back when it closes the files.
 //!
-//! Nothing here knows of threads. `kf_files` has the same over the words, for many threads, and exports all
-//! of this too.
+//! Nothing here knows of threads. `kf_files` has such files over the atomic words, for many threads, and
+//! re-exports all of this.
 #![tactic(auto)]
 
 mod binary_ops;

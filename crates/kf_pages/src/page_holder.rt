@@ -1,4 +1,4 @@
-//! The page of an open file: it lies in the file, or in a box that later files use again.
+//! The page of an open file: it lies in the file, or in a box that later files can use again.
 
 ghost use Rattle.std.specs.Prelude.{◌≡◌, ℕ, List, OnOk};
 ghost use Rattle.kf_core.specs.Calls.{GivenBack};
@@ -8,17 +8,17 @@ ghost use Rattle.kf_pages.specs.Files.{filled_by, text_of};
 use crate::ops::{Fault, Ops, Page};
 use kf_core::ActiveCall;
 
-/// Holds the page of an open file. What stands on it before a show does not matter.
+/// Holds the page of an open file. What is on the page before a show does not matter.
 pub trait PageHolder {
     /// The bytes on the page.
     ghost bytes: { Self → List ℕ };
 
-    /// The bytes on the page.
+    /// Returns the bytes on the page.
     fn bytes(&self) -> &[u8]
         ensures same { result.now ≡ bytes self.now };
 
-    /// Shows on the emptied page, and cuts a full one to its first 4,095 bytes; or gives the fault of the
-    /// show, after which what stands on the page does not matter.
+    /// Empties the page, lets the show fill it, and cuts a full page to its first 4,095 bytes. If the show
+    /// fails, its fault is returned, and what is on the page does not matter.
     ///
     /// Condition: the call is Running.
     fn show<C: ActiveCall, O: Ops<C>>(
@@ -85,8 +85,8 @@ impl PageHolder for Box<Page> {
     }
 }
 
-/// A page for a box, with two cache lines behind it: pages that lie side by side are written by
-/// threads that share no line.
+/// A page for a box, with two cache lines of padding behind it. So threads that write pages that lie side by
+/// side share no cache line.
 #[derive(Drop)]
 pub struct PageApart {
     page: Page,
@@ -94,7 +94,7 @@ pub struct PageApart {
 }
 
 impl PageApart {
-    /// An empty page. No clause rests on that: each show begins by emptying it.
+    /// Makes an empty page. No clause relies on that, since each show first empties the page.
     pub fn new() -> PageApart {
         PageApart {
             page: Page::new(),

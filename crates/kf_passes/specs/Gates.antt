@@ -35,24 +35,25 @@ IsOpenFor lanes call (gate.Open keeping) (way.Outside pass) = (keeping.keeper.ke
     × (keeping.keeper.seat.gate.lanes ≡ lanes) × (pass.seat.gate ≡ keeping.keeper.seat.gate) × (pass.lane ≡ 0)
 IsOpenFor lanes call other first = ⊥
 
--- the gate was shut, and each lane seen empty since. After that one step ended the call that it kept: the
--- hold is there again, and this wake is owed
+-- the gate was shut, and each lane was seen empty since. After that, one step ended the call that the gate
+-- kept. The call's hold is left, and this wake is owed
 abbrev pub HasClosed : KeeperState Entered → ClosedState → Handle → Owed → Type 0
 HasClosed keeper closed hold due = (last_opening closed ≡ opening_of keeper)
     × IsOver keeper.seat.gate.lanes closed.plan × IsSameSeat keeper.kept.call hold
     × WasLeft keeper.kept.call hold × WasALeave (seat_view keeper.kept.call) (seat_view hold)
     × (due ≡ owed hold)
 
--- the gate is shut, keeps its call, and the last look of this call found somebody who counts in the next lane
+-- the gate is shut and keeps its call. The keeper looked at lanes, and its last look found a caller counted
+-- in the next lane
 abbrev pub HasShut : KeeperState Entered → KeeperState Entered → Type 0
 HasShut old new = KeepsOn old new × (new.plan.shut ≡ true) × FoundUser old new
 
--- an open gate was closed so
+-- an open gate was closed, as in `HasClosed`
 abbrev pub WasClosed : Gate → Gate → Handle → Owed → Type 0
 WasClosed (gate.Open keeping) (gate.Closed closed) hold due = HasClosed keeping.keeper closed hold due
 WasClosed old new hold due = ⊥
 
--- an open gate is shut so; a closed gate stays as it is
+-- an open gate is shut, as in `HasShut`; a closed gate stays as it is
 abbrev pub IsShutStill : Gate → Gate → Type 0
 IsShutStill (gate.Open old) (gate.Open new) = HasShut old.keeper new.keeper
 IsShutStill (gate.Closed old) (gate.Closed new) = new ≡ old

@@ -1,11 +1,11 @@
-//! Calls that have their reference: of a node, and through a gate.
+//! Calls that still have their reference: of a node, and through a gate.
 ghost use Rattle.std.specs.Prelude.{◌≡◌};
 ghost use Rattle.kf_core.specs.declared.caller.Phase.TheVariants as phase_of;
 
 use kf_gates::GateCall;
 use kf_words::Call;
 
-/// A call of a node that has the reference that it entered with.
+/// A call of a node that still has the reference with which it entered.
 pub struct Entered {
     pub(crate) call: Call,
     ghost running: { call.phase ≡ phase_of.Running },
@@ -18,7 +18,7 @@ pub struct Through {
 }
 
 impl Through {
-    /// Keeps a call.
+    /// Wraps a call that is Running.
     pub fn new(call: GateCall) -> Through
         requires running { call.phase ≡ phase_of.Running }
         ensures { result.call ≡ call }
@@ -26,7 +26,7 @@ impl Through {
         Through { call }
     }
 
-    /// The call, which is then its caller's to leave.
+    /// Returns the call, which the caller must leave.
     pub fn into_call(self) -> GateCall
         ensures call { result ≡ self.call }
         ensures running { result.phase ≡ phase_of.Running }
@@ -36,7 +36,7 @@ impl Through {
     }
 }
 
-/// It goes out of the gate, and wakes nobody: a handle with a call behind it is not dropped.
+/// Leaves the gate, and wakes nobody. No wake is missed, since a handle with a call behind it is not dropped.
 impl Drop for Through {
     fn drop(self) {
         self.into_call().leave_quiet();

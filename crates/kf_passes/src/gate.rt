@@ -24,8 +24,9 @@ impl Keeping {
         Keeping { keeper }
     }
 
-    /// Shuts the gate, and looks at the lanes that it has not seen empty since. If all are, the gate is
-    /// closed. Then its call leaves the node, and beside the hold stands the wake that this step owes.
+    /// Shuts the gate, and looks at the lanes that it has not seen empty since then. If all are empty, the
+    /// gate is closed, and its call leaves the node. Then the result has the closed gate, the call's hold,
+    /// and the wake that this leave owes. Otherwise the keeper is returned.
     fn close(self) -> Result<(Closed, Hold, WakeDue), Keeping>
         ensures closed { IfOk result (λ r. HasClosed self.keeper r.0 r.1 r.2) }
         ensures not_yet { IfErr result (λ back. HasShut self.keeper back.keeper) }
@@ -43,8 +44,8 @@ impl Keeping {
     }
 }
 
-/// If somebody is inside, the node keeps the gate's call for ever: but a handle with an open gate is not
-/// dropped.
+/// If somebody is inside, the gate's call keeps its reference to the node for ever. That does not happen,
+/// since a handle with an open gate is not dropped.
 impl Drop for Keeping {
     fn drop(self) {
         match self.close() {
@@ -58,7 +59,7 @@ impl Drop for Keeping {
     }
 }
 
-/// A gate.
+/// A gate, which is closed or open.
 #[derive(Drop)]
 pub enum Gate {
     /// Nobody is inside, and nobody comes in.
@@ -80,7 +81,7 @@ impl Gate {
     }
 }
 
-/// Opens a gate, with a call that it keeps.
+/// Opens a closed gate with a call, which the gate keeps. If that fails, the call is returned.
 fn open(gate: Gate, kept: Entered) -> (Gate, Result<(), Entered>)
     ensures opened { OnOk result.1 (WasOpened gate kept result.0) }
     ensures back { IfErr result.1 (λ back. back ≡ kept) }
@@ -94,8 +95,8 @@ fn open(gate: Gate, kept: Entered) -> (Gate, Result<(), Entered>)
     }
 }
 
-/// An open gate with this number of lanes, which keeps the call, and the gate's first pass. The call comes
-/// back if there is no memory.
+/// Makes an open gate with this number of lanes, which keeps the call, and the gate's first pass. If there is
+/// no memory, the call is returned.
 ///
 /// Conditions: a gate may have this number of lanes, and the call is Running.
 pub fn gate_of(alloc: Global, lanes: u64, call: Call) -> Result<(Box<Gate>, Way), Call>
@@ -135,9 +136,10 @@ fn shut(gate: Gate, _nothing: ()) -> (Gate, Option<(Hold, WakeDue)>)
 }
 
 impl Gate {
-    /// Shuts the gate (`percpu_ref_kill`), and looks at the lanes that it has not seen empty since. If all
-    /// are, the gate is closed: nobody is inside. Then its call leaves the node, in one step, and beside the
-    /// hold stands the wake that this step owes.
+    /// Shuts the gate (`percpu_ref_kill`), and looks at the lanes that it has not seen empty since then. If
+    /// all are empty, the gate is closed: nobody is inside. Then its call leaves the node, in one step, and
+    /// the call's hold is returned with the wake that this step owes. None is returned if somebody was found
+    /// in a lane, or if the gate was already closed.
     pub fn shut(&mut self) -> Option<(Hold, WakeDue)>
         ensures closed { IfSome result (λ r. WasClosed self.old self.new r.0 r.1) }
         ensures not_yet { IfNone result (IsShutStill self.old self.new) }

@@ -1,4 +1,4 @@
-//! A pass of a gate that is opened once, and a call by it.
+//! A pass of a gate that is opened once, and a call made with it.
 ghost use Rattle.std.specs.Prelude.{◌≡◌, false, true, IfErr, IfNone, IfOk, IfSome, OnOk};
 ghost use Rattle.kf_passes.specs.Ways.{IsInside, IsKeptOut, IsOutside, IsSamePass, MadeAnother, NoOther, WasLetIn, WentOut};
 
@@ -7,7 +7,7 @@ use core::mem::replace_with;
 use kf_core::Refusal;
 use kf_gates::Pass;
 
-/// A thread's way through a gate.
+/// A thread's way through a gate: a pass while it is outside, and a call while it is inside.
 #[derive(Drop)]
 pub enum Way {
     Outside(Pass),
@@ -15,7 +15,7 @@ pub enum Way {
 }
 
 impl Way {
-    /// Whether it is a call.
+    /// Whether it is inside, and so a call.
     pub fn is_inside(&self) -> bool
         ensures yes { result ≡ true → IsInside self.now }
         ensures no { result ≡ false → IsOutside self.now }
@@ -58,10 +58,10 @@ fn let_out(way: Way, _nothing: ()) -> (Way, Option<bool>)
 }
 
 impl Way {
-    /// Goes inside, by a pass (`percpu_ref_tryget_live`).
+    /// Goes inside, with a pass (`percpu_ref_tryget_live`).
     ///
-    /// Refusals: NoDevice (its look found the gate shut: it was counted in its lane for a moment, which the
-    /// keeper may have seen), Invalid (it is inside).
+    /// Refusals: NoDevice (the pass found the gate shut; it was counted in its lane for a moment, and the
+    /// keeper may have seen that), Invalid (it is already inside).
     #[inline(always)]
     pub fn enter(&mut self) -> Result<(), Refusal>
         ensures entered { OnOk result (WasLetIn self.old self.new) }
@@ -70,8 +70,8 @@ impl Way {
         replace_with(self, (), let_in)
     }
 
-    /// Goes out again (`percpu_ref_put`), and returns whether the gate was found shut after that; nothing if
-    /// it is outside.
+    /// Goes out again (`percpu_ref_put`), and returns whether the gate was found shut after that. Returns
+    /// None if it is outside.
     #[inline(always)]
     pub fn leave(&mut self) -> Option<bool>
         ensures left { IfSome result (λ shut. WentOut self.old self.new shut) }
@@ -80,10 +80,10 @@ impl Way {
         replace_with(self, (), let_out)
     }
 
-    /// Another pass of the gate of a pass, by the lane of this number, counted from 0 and modulo the number
-    /// of lanes.
+    /// Makes another pass of the same gate. Its lane is `lane` modulo the number of lanes, counted from 0.
     ///
-    /// Refusals: Invalid (it is inside), TooManyHolds (the gate has had 2^32 passes), NoMemory.
+    /// Refusals: Invalid (it is inside), TooManyHolds (the gate has had 2^32 - 1 passes, including those that
+    /// other threads are trying to make), NoMemory.
     pub fn another(&mut self, lane: u64) -> Result<Way, Refusal>
         ensures made { IfOk result (λ other. MadeAnother self.old lane other) }
         ensures same { IsSamePass self.old self.new }

@@ -1,4 +1,4 @@
--- What a command of the tree makes of the board: births, activations, moves, compactions, and their refusals.
+-- What a tree command does to the board: births, activations, moves, compactions, and their refusals.
 use Rattle.std.proofs.Common.{◌≡◌, ℕ, ap, sym, ◌∙◌, subst, Bool, true, false, cond, List, [], ◌∷◌}
 use Rattle.std.specs.Prelude.{Option, Some, Result, Ok, Err, IfOk, IfErr}
 use Rattle.kf_core.specs.declared.key.Key.{Key}
@@ -42,12 +42,12 @@ module _ (b b' : Plain) (n n' : Nodes) (events : List ℕ) (texts : List (List �
   )
   shown_created path node is_live next (Err refusal) found given made = tt
 
-  -- a refusal, whatever was asked for
+  -- if the nodes refuse, the board refuses for the same reason, whatever was asked for
   pub shown_why : {X : Type 0} (leads : TreeLog → Result X Refusal) {T : Type 0} (result : Result T Refusal) → IfErr result (λ refusal. IsWhy (leads n.log) refusal × (n' ≡ n)) → IfErr result (λ refusal. IsRefusedBy (leads b.log) b refusal b')
   shown_why leads (Ok x) refused = tt
   shown_why leads (Err refusal) refused = (subst (λ (l : TreeLog). IsWhy (leads l) refusal) (log_shown b n events texts files tokens is whole) refused.0, sym is' ∙ same_shown b n events texts files tokens is whole n' refused.1)
 
-  -- the same, if it was asked under the next key
+  -- the same for a request that depends on the next key
   pub shown_why_next : {X : Type 0} (leads : TreeLog → Option Key → Result X Refusal) {T : Type 0} (next : Option Key) (result : Result T Refusal) → IsFreeKeyOf n.log.tree n.last (hold_count n.callers) next → IfErr result (λ refusal. IsWhy (leads n.log next) refusal × (n' ≡ n)) →
       IfErr result (λ refusal. (o : Option Key) × IsFreeKey b o × IsRefusedBy (leads b.log o) b refusal b')
   shown_why_next leads next (Ok x) found refused = tt
@@ -75,7 +75,7 @@ module _ (b b' : Plain) (n n' : Nodes) (events : List ℕ) (texts : List (List �
   )
   shown_linked path target next (Err refusal) found given made = tt
 
-  -- commands that keep the last generations
+  -- the board after commands that keep the last generations
   commands_shown : (cs : List Command) → n' ≡ record { log = logged n.log cs; last = n.last; limit = n.limit; callers = n.callers } → b' ≡ with_commands b cs
   commands_shown cs e = sym is' ∙ ap (λ m. plain_of m events texts files tokens) e ∙ ap (λ (x : Plain). with_commands x cs) is
 
@@ -92,7 +92,7 @@ module _ (b b' : Plain) (n n' : Nodes) (events : List ℕ) (texts : List (List �
   shown_activated path (Ok x) done = (done.0, subst (λ (l : TreeLog). activated_key l path ≡ Ok done.0) (log_shown b n events texts files tokens is whole) done.1, commands_shown (Activate done.0 ∷ []) done.2)
   shown_activated path (Err refusal) done = tt
 
-  -- a move, or none if the node is there already
+  -- the board after a move; nothing moves if the node is there already
   moved_or_not : (key into : Key) (name : List ℕ) → n' ≡ moved_nodes n key into name → IsWholeBoard n' events texts files tokens × (b' ≡ with_move b key into name)
   moved_or_not key into name e =
       let after = go (is_there_already n.log.tree key into name) e in
@@ -111,7 +111,7 @@ module _ (b b' : Plain) (n n' : Nodes) (events : List ℕ) (texts : List (List �
   shown_moved path dir name (Ok x) done = (done.0, subst (λ (l : TreeLog). moved_key l path dir name ≡ Ok done.0) (log_shown b n events texts files tokens is whole) done.1, (moved_or_not done.0.0 done.0.1 name done.2).1)
   shown_moved path dir name (Err refusal) done = tt
 
-  -- a compaction, whatever came of it
+  -- the board stays whole after a compaction, whether or not it succeeded
   pub whole_compacted : (result : Result (Unit {0}) Refusal) → IfOk result (λ _. (cs : List Command) × IsCanonical n.log.tree cs × (n' ≡ record { log = listed n.log cs; last = n.last; limit = n.limit; callers = n.callers })) →
       IfErr result (λ refusal. (refusal ≡ NoMemory) × (n' ≡ n)) → IsWholeBoard n' events texts files tokens
   whole_compacted (Ok x) done refused = whole_listed n events texts files tokens whole n' done.0 (ap (λ (m : Nodes). m.log) done.2) (ap (λ (m : Nodes). m.callers) done.2)

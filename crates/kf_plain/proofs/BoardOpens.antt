@@ -1,4 +1,4 @@
--- A letter is given a file, has one, or loses it.
+-- What the board shows when a letter is given a file, has one, or loses it.
 use Rattle.std.proofs.Common.{◌≡◌, inl, inr, ℕ, refl, ap, sym, ◌∙◌, subst, false, List, [], ◌∷◌, ◌++◌, slice_set}
 use Rattle.std.specs.Prelude.{Option, None, Some, slice_get, is_some, IsTrue, Result, Ok, Err, not}
 use Rattle.std.specs.Option.{option_map, option_and_then, ok_or}
@@ -30,7 +30,7 @@ use Rattle.kf_plain.proofs.Wholes.{held_part, whole_held}
 use Rattle.kf_plain.proofs.BoardShows.{spent_whole, spent_shown, leads_shown, why_shown}
 
 module _ (b : Plain) (n n' : Nodes) (events events' : List ℕ) (texts : List (List ℕ)) (files : List (Option BoardFile)) (tokens : List (Option BoardToken)) (is : plain_of n events texts files tokens ≡ b) (whole : IsWholeBoard n events texts files tokens) where
-  -- an open, of a letter that had no file
+  -- an open for a letter that had no file
   module _ (file : ℕ) (path : List ℕ) (want : Want) (index : Option BoardFile) (at : slice_get files file ≡ Some index) (empty : is_some index ≡ false) (same_posts : events' ≡ events) where
     no_file : slice_get files file ≡ Some None
     no_file = at ∙ ap (λ o. Some o) (none index empty)

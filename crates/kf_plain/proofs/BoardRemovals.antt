@@ -1,4 +1,4 @@
--- What a removal, or a refused one, makes of the board.
+-- What a removal, done or refused, does to the board.
 use Rattle.std.proofs.Common.{◌≡◌, ℕ, refl, ap, sym, ◌∙◌, subst, List, ◌∷◌}
 use Rattle.std.specs.Prelude.{Option, Result, Ok, Err, IfOk, IfErr, map}
 use Rattle.kf_core.specs.declared.key.Key.{Key}

@@ -1,5 +1,5 @@
--- What the board shows of its parts: the next key, the commands, whether its causes lead, and holds that
--- came and went.
+-- What the board shows of its parts: the next key, the commands, births, what a request leads to, and holds
+-- that were taken and released.
 use Rattle.std.proofs.Common.{◌≡◌, inl, inr, ℕ, refl, ap, sym, ◌∙◌, subst, Bool, List, [], ◌∷◌}
 use Rattle.std.specs.Prelude.{Option, Result, Err}
 use Rattle.kf_core.specs.declared.key.Key.{Key}
@@ -25,7 +25,7 @@ module _ (b : Plain) (n : Nodes) (events : List ℕ) (texts : List (List ℕ)) (
   pub log_shown : n.log ≡ b.log
   log_shown = ap (λ (x : Plain). x.log) is
 
-  -- after a birth
+  -- the board after a birth
   pub born_shown : (n' : Nodes) (key : Key) (spot : Spot) (node : Node) (is_live : Bool) → n' ≡ with_born n key spot node is_live → plain_of n' events texts files tokens ≡ with_node b key spot node is_live
   born_shown n' key spot node is_live e = ap (λ m. plain_of m events texts files tokens) e ∙ ap (λ (x : Plain). with_node x key spot node is_live) is
 
@@ -45,7 +45,7 @@ module _ (b : Plain) (n n' : Nodes) (events events' : List ℕ) (texts : List (L
   pub spent_shown : (keys : List Key) → n' ≡ with_spent n keys → plain_of n' events texts files tokens ≡ b
   spent_shown keys e = ap (λ m. plain_of m events texts files tokens) e ∙ is
 
-  -- what a removal and an open lead to, by the board's own counts
+  -- what a removal or an open leads to, by the board's own counts of holds
   pub leads_shown : {X : Type 0} (leads : TreeLog → (ℕ → ℕ) → ℕ → X) (x : X) → leads n.log (hold_count n.callers) n.limit ≡ x → leads b.log (holder_count b) b.limit ≡ x
   leads_shown leads x e = subst (λ (y : Plain). leads y.log (holder_count y) y.limit ≡ x) is (subst (λ count. leads n.log count n.limit ≡ x) (counts_same n events texts files tokens whole) e)
 

@@ -1,4 +1,4 @@
--- The tag of a file on the board is its own slot, whatever commands come.
+-- A file on the board has its own slot as its tag, whatever commands are stored.
 use Rattle.std.proofs.Common.{◌≡◌, inl, inr, ℕ, refl, ap, sym, ◌∙◌, subst, Bool, true, false, cond, List, [], ◌∷◌, slice_set}
 use Rattle.std.specs.Prelude.{Option, None, Some, slice_get, map}
 use Rattle.std.specs.Option.{option_map}

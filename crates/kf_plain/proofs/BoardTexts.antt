@@ -1,4 +1,4 @@
--- A file is linked, and then its text is put in.
+-- A file is created, and then its text is put into the text table.
 use Rattle.std.proofs.Common.{◌≡◌, ℕ, ◌<◌, refl, ap, arith, sym, ◌∙◌, subst, true, List, length, slice_set}
 use Rattle.std.specs.Prelude.{Option, None, Some, Ok}
 use Rattle.std.proofs.lemmas.Option.{slice_get_within}

@@ -1,4 +1,4 @@
--- The board keeps a token by slot, and drops it.
+-- The board keeps the token of a hidden file by slot, and drops it when the file is shown.
 use Rattle.std.proofs.Common.{◌≡◌, ℕ, ◌<◌, refl, ap, sym, ◌∙◌, subst, Bool, true, false, List, [], ◌∷◌, ◌++◌, length, slice_set}
 use Rattle.std.specs.Prelude.{Option, None, Some, slice_get, is_some, Result, Ok, Err}
 use Rattle.std.specs.Option.{option_map, option_and_then, option_map_or, ok_or}
@@ -40,7 +40,7 @@ pub not_a_token : (o : Option BoardToken) → ((t : BoardToken) → o ≡ Some t
 not_a_token None h = refl
 not_a_token (Some t) h = absurd (h t refl)
 
--- what is reported of a node is reported of a linked one
+-- if a node's stat is reported, the node is linked
 pub stat_linked : (log seen : TreeLog) (key : Key) (s : Stat) → seen ≡ log → ok_or (option_map (stat_of seen.tree) (record_at seen.tree key)) NoEntry ≡ Ok s → is_linked log.tree key ≡ true
 stat_linked log seen key s same told = subst (λ (l : TreeLog). is_linked l.tree key ≡ true) same (go (record_at seen.tree key) told)
   where
@@ -60,7 +60,7 @@ module _ (b : Plain) (n n' : Nodes) (events : List ℕ) (texts : List (List ℕ)
   token_inside key linked = let r = linked_here n.log.tree key linked in
       subst (λ m. key.slot < m) (sym whole.a_token_each) (subst (λ (k : Key). k.slot < length n.log.tree) r.2 (slice_get_within n.log.tree r.0.key.slot (Some r.0) r.1))
 
-  -- a token more
+  -- one more token
   module _ (t : BoardToken) (hidden : n' ≡ record { log = logged n.log (Hide t.key ∷ []); last = n.last; limit = n.limit; callers = n.callers ++ hidden_on t.key ∷ [] }) where
     pub whole_hidden : is_linked n.log.tree t.key ≡ true → t.hold ≡ length n.callers → NoneHides n.callers t.key.slot → IsWholeBoard n' events texts files (slice_set tokens t.key.slot (Some t))
     whole_hidden linked hold first = whole_tokens n n' events texts files tokens (slice_set tokens t.key.slot (Some t)) whole
@@ -74,7 +74,7 @@ module _ (b : Plain) (n n' : Nodes) (events : List ℕ) (texts : List (List ℕ)
         (key : Key) × (hidden_key b.log (holder_count b) b.limit path ≡ Ok key) × (plain_of n' events texts files (slice_set tokens t.key.slot (Some t)) ≡ with_hidden b key)
     shown_hidden path leads = (t.key, leads_shown b n n' events events texts files tokens is whole (λ l c m. hidden_key l c m path) (Ok t.key) leads, tokens_set t.key.slot (Some t) (Hide t.key) _ hidden)
 
-  -- the token of a slot
+  -- the token of the key that a path leads to
   module _ (path : List ℕ) (key : Key) (walk : walked n.log.tree n.log.root path ≡ Ok key) where
     led_shown : is_linked n.log.tree key ≡ true → (has : Bool) → has_token b key ≡ has → shown_key b path ≡ ok_unless (unless has Invalid) key
     led_shown linked has e = ap (λ (r : Result Key Refusal). and_then r (λ k. ok_unless (shown_cause b k) k)) (subst (λ (y : Plain). walked y.log.tree y.log.root path ≡ Ok key) is walk)
@@ -93,7 +93,7 @@ module _ (b : Plain) (n n' : Nodes) (events : List ℕ) (texts : List (List ℕ)
     not_shown linked None at other = led_shown linked false (has_from None at)
     not_shown linked (Some t) at other = led_shown linked false (has_from (Some t) at ∙ other t refl)
 
-    -- a token less
+    -- one token fewer
     module _ (t : BoardToken) (at : slice_get tokens key.slot ≡ Some (Some t)) (own : t.key ≡ key)
         (shown : n' ≡ record { log = logged n.log (Show t.key ∷ []); last = n.last; limit = n.limit; callers = slice_set n.callers t.hold (spent_on t.key) }) where
       pub whole_shown : IsWholeBoard n' events texts files (slice_set tokens key.slot None)

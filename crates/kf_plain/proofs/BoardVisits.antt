@@ -1,5 +1,5 @@
--- Visits to a node by the caller of an open file: what they leave of the nodes, and what they are to the one
--- caller.
+-- Visits to a node by the caller of an open file: what they keep of the nodes and callers, and what they come
+-- to for the one caller.
 use Rattle.std.proofs.Common.{◌≡◌, inl, inr, ℕ, zero, suc, ◌<◌, refl, ap, arith, sym, ◌∙◌, subst, Bool, true, false, List, [], ◌∷◌, ◌++◌, length, slice_set}
 use Rattle.std.specs.Prelude.{Option, None, Some, slice_get, is_some, IsTrue, IsFalse, Result, Ok, Err, IfOk, IfErr, OnErr, not, ◌&&◌, map}
 use Rattle.std.specs.Option.{option_map}
@@ -38,13 +38,13 @@ use Rattle.kf_plain.specs.Visits.{VisitsLive, file_cause}
 use Rattle.kf_plain.proofs.Callers.{waits_inside, waiting_releases}
 use Rattle.kf_plain.proofs.HiddenMarks.{told_by, told_pinned, told_released, told_held, told_spent, hiders_waiting}
 
--- a caller has one key
+-- a caller has only one key
 one_key : (w : BareWorld) (id : ℕ) (k l : Key) (p q : Phase) → IsCaller w id k p → IsCaller w id l q → k ≡ l
 one_key w id k l p q a b = ap (λ (c : Caller). c.key) (same_Some (let x : Caller = record { key = k; phase = p } in x) (let y : Caller = record { key = l; phase = q } in y) (sym a ∙ b))
 
--- ---- what a visit leaves
+-- ---- what a visit leaves as it was
 
--- the slots are as before, and of the callers at most this one has another phase
+-- the slots and the limit are as before, and the callers too, except that this one may wait in another phase
 pub record Visited (w : BoundedWorld) (id : ℕ) (key : Key) (w' : BoundedWorld) : Type 0 where
   pub slots : w'.world.slots ≡ w.world.slots
   pub limit : w'.limit ≡ w.limit
@@ -63,13 +63,13 @@ module _ {Done : Type 0} (w : BoundedWorld) (id : ℕ) (key : Key) (w' : Bounded
   visited idle does (tried None) h = visited_by w id key Turned w' refl h.1
   visited idle does (tried (Some d)) h = visited_by w id key Still w' refl h.1
 
-  -- to the one caller, to which the tree says what is live
+  -- for the one caller, whether the node is live in the tree decides whether a visit is let in
   pub to_live : (live : Bool) (idle idle' : Type 0) (does does' : Done → Type 0) (v : Visit Done) → is_live_there w.world key ≡ live → (idle → idle') → ((d : Done) → does d → does' d) → VisitsAlone w id key w' idle does v → VisitsLive live idle' does' v
   to_live live idle idle' does does' unvisited e i d h = i h.1
   to_live live idle idle' does does' (tried None) e i d h = (subst (λ b. IsFalse b) e h.0, i h.2)
   to_live live idle idle' does does' (tried (Some x)) e i d h = (subst (λ b. IsTrue b) e h.0, d x h.2)
 
-  -- what holds where nothing was done, and of all that may be done, holds
+  -- what holds if nothing was done, and holds after anything that may be done, holds after the visit
   pub either_way : (idle : Type 0) (does : Done → Type 0) (v : Visit Done) → ((d : Done) → does d → idle) → VisitsAlone w id key w' idle does v → idle
   either_way idle does unvisited d h = h.1
   either_way idle does (tried None) d h = h.2
@@ -85,13 +85,13 @@ live_told log w key tied told = ap (λ m. are_live m && not (is_hidden w key)) (
 pub tied_slots : (log : TreeLog) (w w' : BareWorld) → AreTied log w → w'.slots ≡ w.slots → AreTied log w'
 tied_slots log w w' t e = subst (λ ps. AreTied log (record { slots = ps; callers = w'.callers })) (sym e) (record { kept = t.kept; undoomed = t.undoomed; marks = t.marks; slots = t.slots })
 
--- a pin, whatever came of it
+-- tree and world stay tied after a pin, whether or not it succeeded
 pub pinned_stays : (log : TreeLog) (w w' : BoundedWorld) (key : Key) (result : Result ℕ Refusal) → AreTied log w.world → AgreesHidden log.tree w.world →
     IfOk result (λ id. Happens w (Pin id key) w') → OnErr result (w' ≡ w) → AreTied log w'.world × AgreesHidden log.tree w'.world
 pinned_stays log w w' key (Ok id) tied told pin same = (tied_slots log w.world w'.world tied (ap (λ (v : BareWorld). v.slots) pin.steps.2), told_pinned log.tree w w' told id key pin)
 pinned_stays log w w' key (Err refusal) tied told pin same = subst (λ (v : BoundedWorld). AreTied log v.world × AgreesHidden log.tree v.world) (sym same) (tied, told)
 
--- holds of some nodes, or none
+-- tree and world stay tied after pins of some nodes, whether or not they succeeded
 pub held_stays : (log : TreeLog) (w w' : BoundedWorld) (keys : List Key) (result : Result ℕ Refusal) → AreTied log w.world → AgreesHidden log.tree w.world →
     IfOk result (λ _. w' ≡ with_callers w (w.world.callers ++ map still_on keys)) → IfErr result (λ refusal. PinsRefused w keys refusal × ((spent : List Key) × (w' ≡ with_callers w (w.world.callers ++ map spent_on spent)))) →
     AreTied log w'.world × AgreesHidden log.tree w'.world
@@ -101,7 +101,7 @@ held_stays log w w' keys (Err refusal) tied told held refused = (
   told_spent log.tree w w' told refused.1.0 (ap (λ (v : BoundedWorld). v.world.callers) refused.1.1),
 )
 
--- the value that contracts see, where only the callers are others
+-- the value that contracts see, if only the callers have changed
 pub seen_callers : (n : Nodes) (log : TreeLog) (w w' : BoundedWorld) (callers : List Caller) → nodes_of log w ≡ n → w'.world.slots ≡ w.world.slots → w'.limit ≡ w.limit → w'.world.callers ≡ callers →
     nodes_of log w' ≡ record { log = n.log; last = n.last; limit = n.limit; callers = callers }
 seen_callers n log w w' callers is s l cs =
@@ -122,7 +122,7 @@ can_try n log w id key is h = let h' = waits_inside n log w id key is h in may_e
 pub live_seen : (n : Nodes) (log : TreeLog) (w : BoundedWorld) (key : Key) → nodes_of log w ≡ n → AreTied log w.world → AgreesHidden log.tree w.world → is_live_there w.world key ≡ live_in n.log.tree key
 live_seen n log w key is tied told = live_told log w.world key tied told ∙ ap (λ (m : Nodes). live_in m.log.tree key) is
 
--- ---- the words of files, by other words for a visit
+-- ---- facts about files, restated with another fact about the visit
 
 module _ (V V' : Visit ShowResult → Type 0) (to : (v : Visit ShowResult) → V v → V' v) (Answers : Result (List ℕ) FileError → Type 0) (state : FileState) (offset count : ℕ) (state' : FileState) where
   pub reads_by : Reads V Answers state offset count state' → Reads V' Answers state offset count state'
@@ -133,7 +133,7 @@ module _ (V V' : Visit ShowResult → Type 0) (to : (v : Visit ShowResult) → V
   }
 
 module _ (V : Visit ShowResult → Type 0) (Answers : Result (List ℕ) FileError → Type 0) (state : FileState) where
-  -- whatever is read, one visit came
+  -- whatever is read, V holds for some visit, even if none was made
   pub reads_visit : (offset count : ℕ) (state' : FileState) → Reads V Answers state offset count state' → (v : Visit ShowResult) × V v
   reads_visit offset count state' r = elim state.want.read as (λ b. state.want.read ≡ b → (v : Visit ShowResult) × V v) [
     | false ↦ λ e. (unvisited, (r.denied e).0)
@@ -166,7 +166,7 @@ module _ (V : Visit (Unit {0}) → Type 0) (want : Want) (refused : Option Refus
   opens_visit (File mode tag) r = let s = r.file mode tag refl in (tried s.0, s.1)
   opens_visit (Link target) r = (unvisited, (r.link target refl).0)
 
-  -- why an open was refused, if a try gave a call exactly when the node is live
+  -- why an open was refused, if a try succeeds exactly when the node is live
   pub opens_cause : (live : Bool) → ((came : Option (Unit {0})) → V (tried came) → is_some came ≡ live) → (node : Node) → Opens V node want refused → refused ≡ file_cause node want live
   opens_cause live tells Dir r = (r.dir refl).1
   opens_cause live tells (File mode tag) r = let s = r.file mode tag refl in s.2 ∙ ap (λ b. file_cause (File mode tag) want b) (tells s.0 s.1)
@@ -189,7 +189,7 @@ last_set (x ∷ xs) y z = ap (λ ys. x ∷ ys) (last_set xs y z)
 pub pinned_there : (w : BoundedWorld) (id : ℕ) (key : Key) (w' : BoundedWorld) → Happens w (Pin id key) w' → IsCaller w'.world id key Still
 pinned_there w id key w' h = subst (λ v. IsCaller v id key Still) (sym h.steps.2) (subst (λ i. IsCaller (with_caller w.world key) i key Still) (sym h.steps.0) (last_there w.world.callers (record { key = key; phase = Still })))
 
--- ---- an open: a pin, a visit, and if it is refused, a release
+-- ---- an open is a pin and a visit, followed by a release if the open is refused
 
 pub visited_waits : (w : BoundedWorld) (id : ℕ) (key : Key) (w' : BoundedWorld) → Visited w id key w' → Waits w.world.callers id key → Waits w'.world.callers id key
 visited_waits w id key w' v h = go v.callers
@@ -217,7 +217,7 @@ module _ (n : Nodes) (log : TreeLog) (w pinned w' : BoundedWorld) (id : ℕ) (ke
   pub told_opened : AgreesHidden log.tree w.world → AgreesHidden log.tree w'.world
   told_opened told = told_by log.tree pinned.world w'.world (hiders_waiting pinned.world.callers id key w'.world.callers waits_pinned visit.callers) (told_pinned log.tree w pinned told id key pin)
 
-  -- the new caller's phase, and the callers
+  -- the new caller is the last of the callers, and it waits
   new_phase : (phase : Phase) × IsTrue (is_waiting phase) × (w'.world.callers ≡ w.world.callers ++ record { key = key; phase = phase } ∷ [])
   new_phase = go visit.callers
     where

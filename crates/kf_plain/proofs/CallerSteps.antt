@@ -1,4 +1,4 @@
--- What the steps of one caller make of the world.
+-- What the steps of one caller do to the world.
 use Rattle.std.proofs.Common.{◌≡◌, ℕ, refl, ap, sym, ◌∙◌, subst, cond, slice_set}
 use Rattle.std.specs.Prelude.{Option, None, Some, slice_get, is_some, IsTrue}
 use Rattle.std.proofs.lemmas.Option.{same_Some, slice_get_within}
@@ -19,7 +19,7 @@ use Rattle.kf_plain.specs.Removals.{IsMarkedDoomed, released, with_callers, take
 use Rattle.kf_core.proofs.Climbs.{same_key_self}
 use Rattle.kf_core.proofs.Lists.{slice_get-set_same}
 
--- the caller of this number is on the key, in this phase
+-- the world in which the caller of this number is on the key, in this phase
 abbrev pub in_phase : BoundedWorld → ℕ → Key → Phase → BoundedWorld
 in_phase w id key phase = with_callers w (slice_set w.world.callers id (record { key = key; phase = phase }))
 
@@ -46,7 +46,7 @@ module _ (w w' : BoundedWorld) (id : ℕ) (key : Key) where
 there_after : (w w' : BoundedWorld) (id : ℕ) (key : Key) (before phase : Phase) → IsCaller w.world id key before → w' ≡ in_phase w id key phase → IsCaller w'.world id key phase
 there_after w w' id key before phase there e = subst (λ (v : BoundedWorld). IsCaller v.world id key phase) (sym e) (slice_get-set_same w.world.callers id _ (slice_get_within w.world.callers id _ there))
 
--- the caller of this number, whatever it is, releases its key
+-- the world after the caller of this number, whatever its key and phase, has released
 pub caller_released : (w w' : BoundedWorld) (id : ℕ) (c : Caller) → slice_get w.world.callers id ≡ Some c → Happens w (Release id) w' → w' ≡ with_callers w (slice_set w.world.callers id (released c))
 caller_released w w' id c there h = has_released w w' id c.key c.phase there h
 
@@ -59,7 +59,7 @@ doomed_linked o h = ap is_some h.1
 doomed_doomed : (o : Option NodeFlags) → IsMarkedDoomed o → IsTrue (are_doomed o)
 doomed_doomed o h = ap are_doomed h.1 ∙ h.2
 
--- one caller takes its node out
+-- one caller takes its doomed node out of the world
 module _ (w w1 : BoundedWorld) (id : ℕ) (key : Key) (still : IsCaller w.world id key Still) (doomed : IsMarkedDoomed (marks w.world key)) where
   pub may_look : NoReference w.world key → MayLook w.world id
   may_look unused = record { key = key; phase = Still; there = still; waits = refl; doomed = doomed_doomed (marks w.world key) doomed; unused = unused }

@@ -1,4 +1,4 @@
--- What one caller's next phase makes of the callers.
+-- What a new phase of one caller does to the list of callers.
 use Rattle.std.proofs.Common.{◌≡◌, ℕ, refl, sym, subst, true}
 use Rattle.kf_core.specs.declared.key.Key.{Key}
 use Rattle.kf_core.specs.declared.caller.Phase.{Phase}

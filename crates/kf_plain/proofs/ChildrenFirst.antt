@@ -1,4 +1,4 @@
--- In post-order each node stands after its children.
+-- In post-order each node comes after its children.
 use Rattle.std.proofs.Common.{◌≡◌, inl, inr, ℕ, suc, ◌<◌, refl, ap, arith, sym, ◌∙◌, subst, true, false, cond, List, length, take}
 use Rattle.std.specs.Prelude.{Some, is_some, slice_index_or, Contains}
 use Rattle.std.proofs.lemmas.Bool.{cases_order}
@@ -22,13 +22,13 @@ module _ (t : Tree) (root : Key) (l : Lawful t root) (top : Key) (keys : List Ke
   listed_place : (i : ℕ) (d : Key) → i < length keys → Contains keys (slice_index_or keys i d)
   listed_place i d h = (i, h, get_or_default keys i (slice_index_or keys i d) d h)
 
-  -- no way leads from a node's parent back to the node
+  -- no way up leads from a node's parent back to the node
   no_cycle : (r : Record) (x : Key) (n : ℕ) → IsIn t r → r.parent ≡ Some x → ancestor t n x ≡ Some r.key → ⊥
   no_cycle r x n h up back =
       (let met = root_met t root l r h in
       no_return (parent_of t) root (root_parent t root l) met.0 n r.key met.1 (after_step (parent_of t) n r.key x (parent_known t r h ∙ up) ∙ back))
 
-  -- what is above the parent is above the child
+  -- what is above a node's parent is above the node, too
   also_below : (r : Record) (x above : Key) → IsIn t r → r.parent ≡ Some x → in_subtree t above x ≡ true → in_subtree t above r.key ≡ true
   also_below r x above h up below =
       (let way = subtree_to t root l above x below in
@@ -67,7 +67,7 @@ module _ (t : Tree) (root : Key) (l : Lawful t root) (top : Key) (keys : List Ke
 abbrev doomed_below : Tree → Key → Record → Record
 doomed_below t top r = cond (in_subtree t top r.key) (doomed_record r) r
 
--- the same in the tree in which the subtree is doomed
+-- the same holds in the tree in which the subtree is doomed
 pub children_first_doomed : (t : Tree) (root : Key) → Lawful t root → (top : Key) (keys : List Key) → IsPostOrder t top keys → AreChildrenFirst (after t (Doom top)) keys
 children_first_doomed t root l top keys p i d r within h up =
     (let was = mapped_from t (doomed_below t top) same_keys r h in

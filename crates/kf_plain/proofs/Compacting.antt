@@ -1,4 +1,4 @@
--- A compaction: the tree stays, with other stored commands.
+-- A compaction keeps the tree, and replaces its stored commands.
 use Rattle.std.proofs.Common.{◌≡◌, ap, sym, ◌∙◌, subst, List, length}
 use Rattle.std.specs.Prelude.{Option, Result, Ok, Err, IfOk, IfErr}
 use Rattle.kf_core.specs.declared.key.Key.{Key}
@@ -19,7 +19,7 @@ compacted_log log log' c =
     ap (λ r. made r log'.tree log'.ready) c.same_root ∙ ap (λ t. made log.root t log'.ready) c.same_tree ∙ ap (made log.root log.tree) c.not_ready
 
 module _ (n : Nodes) (log log' : TreeLog) (w : BoundedWorld) (is : nodes_of log w ≡ n) where
-  -- whatever came of it
+  -- tree and world stay tied after a compaction, whether or not it succeeded
   pub compacted_stays_tied : (result : Result (Unit {0}) Refusal) → AreTied log w.world → AgreesHidden log.tree w.world →
       IfOk result (λ _. IsCompacted log log') → IfErr result (λ refusal. (refusal ≡ NoMemory) × (log' ≡ log)) → AreTied log' w.world × AgreesHidden log'.tree w.world
   compacted_stays_tied (Ok x) tied told done refused = (

@@ -16,13 +16,13 @@ module _ {X : Type 0} (p : X → Bool) where
   rest_none true n h = omega (arith, h)
   rest_none false n h = omega (arith, h)
 
-  -- if none passes, this one doesn't
+  -- if no item passes, this one does not
   pub none_passes : (xs : List X) (i : ℕ) (x : X) → count_by p xs ≡ 0 → slice_get xs i ≡ Some x → p x ≡ false
   none_passes [] i x h g = absurd (none-some x g)
   none_passes (y ∷ xs) zero x h g = subst (λ z. p z ≡ false) (same_Some y x g) (is_not (p y) (count_by p xs) (sym (sum_by-cons (λ z. cond (p z) 1 0) y xs) ∙ h))
   none_passes (y ∷ xs) (suc i) x h g = none_passes xs i x (rest_none (p y) (count_by p xs) (sym (sum_by-cons (λ z. cond (p z) 1 0) y xs) ∙ h)) g
 
-  -- if each fails, none passes
+  -- if every item fails the test, none is counted
   pub none_counted : (xs : List X) → ((i : ℕ) (x : X) → slice_get xs i ≡ Some x → p x ≡ false) → count_by p xs ≡ 0
   none_counted [] h = refl
   none_counted (y ∷ xs) h =

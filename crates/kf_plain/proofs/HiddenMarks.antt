@@ -1,4 +1,4 @@
--- The tree's hidden marks stay those that the callers make.
+-- The nodes that the tree has as hidden stay exactly those that callers hide.
 use Rattle.std.proofs.Common.{◌≡◌, inl, inr, ℕ, refl, ap, sym, ◌∙◌, subst, Bool, true, false, cond, List, [], ◌∷◌, ◌++◌, slice_set, replicate}
 use Rattle.std.specs.Prelude.{Option, None, Some, slice_get, ◌&&◌, map, Result, Ok, Err, IfOk, IfErr}
 use Rattle.std.proofs.lemmas.Option.{same_Some}
@@ -32,7 +32,7 @@ use Rattle.kf_plain.proofs.Ties.{Logs, logs}
 
 -- ---- callers
 
--- both lists hide the same keys
+-- the callers of both lists hide the same keys
 abbrev pub SameHiders : List Caller → List Caller → Type 0
 SameHiders cs cs' = (key : Key) → any_hides key cs' ≡ any_hides key cs
 
@@ -52,7 +52,7 @@ hiders_set cs id x y there was is key = hides_set cs key id x y there (hides_not
 pub hiders_pushed : (cs : List Caller) (c : Caller) → is_hiding c.phase ≡ false → SameHiders cs (cs ++ c ∷ [])
 hiders_pushed cs c is key = hides_push cs key c (hides_nothing key c is)
 
--- callers that came, and hide nothing
+-- new callers that hide nothing
 hiders_more : (made : Key → Caller) → ((k : Key) → is_hiding (made k).phase ≡ false) → (cs : List Caller) (keys : List Key) → SameHiders cs (cs ++ map made keys)
 hiders_more made idle [] keys key = none keys
   where
@@ -81,7 +81,7 @@ module _ (t : Tree) (w w' : BoundedWorld) (told : AgreesHidden t w.world) where
   pub told_callers : w'.world.callers ≡ w.world.callers → AgreesHidden t w'.world
   told_callers e = told_by t w.world w'.world (λ key. ap (any_hides key) e) told
 
--- ---- commands that hide and show nothing
+-- ---- commands that neither hide nor show
 
 pub told_after : (log log' : TreeLog) (w : BareWorld) (c : Command) → Logs log log' c → AgreesHidden (after log.tree c) w → AgreesHidden log'.tree w
 told_after log log' w c a told = subst (λ t. AgreesHidden t w) (sym a.changed) told
@@ -103,7 +103,7 @@ pub told_unlinked : (t : Tree) (w : BareWorld) (keys : List Key) → AgreesHidde
 told_unlinked t w [] told = told
 told_unlinked t w (key ∷ keys) told = told_unlinked (after t (Unlink key)) w keys (taken_told t w key.slot (is_linked t key) told)
 
--- a rename, whatever came of it
+-- the hidden marks still agree after a rename, whatever its result
 pub renamed_stays_told : (log log' : TreeLog) (w : BareWorld) (key dir : Key) (name : List ℕ) (cause : Option Refusal) (result : Result (Unit {0}) Refusal) → AgreesHidden log.tree w →
     IfOk result (λ _. is_there_already log.tree key dir name ≡ true → log' ≡ log) → IfOk result (λ _. is_there_already log.tree key dir name ≡ false → IsAccepted log log' cause (Rename key dir name)) → IfErr result (λ refusal. IsRefused log log' cause refusal) → AgreesHidden log'.tree w
 renamed_stays_told log log' w key dir name cause (Ok done) told stays accepted refused =

@@ -1,5 +1,4 @@
--- Hiding a node, and showing it again, by the one caller: what the steps make of the tree and of the
--- callers' world.
+-- The one caller hides a node and shows it again: what these steps do to the tree and to the callers' world.
 use Rattle.std.proofs.Common.{◌≡◌, ◌≢◌, ◌⊎◌, inl, inr, ℕ, ◌<◌, ◌≤◌, refl, ap, sym, ◌∙◌, subst, Bool, true, false, cond, List, [], ◌∷◌, ◌++◌, length, slice_set}
 use Rattle.std.specs.Prelude.{Option, None, Some, slice_get, is_some, IsTrue, IsFalse, ◌&&◌, not}
 use Rattle.std.specs.Option.{option_map, option_map_or}
@@ -63,7 +62,7 @@ unhidden_cause true true true true false h = refl
 not_hidden : (t : Tree) (key : Key) → hide_cause t key ≡ None → hidden_in t key ≡ false
 not_hidden t key h = unhidden_cause (is_linked t key) (not (is_directory t key)) (not (is_link t key)) (not (doomed_in t key)) (hidden_in t key) h
 
--- accepted after it was made ready
+-- making a key ready and then accepting a command logs that command, and nothing else
 pub logs_readied : {log ready log' : TreeLog} {key : Key} {cause cause' : Option Refusal} {c : Command} → IsReadied log ready cause key → IsAccepted ready log' cause' c → Logs log log' c
 logs_readied {c = c} r a = record {
   same_root = a.same_root ∙ r.same_root;
@@ -78,7 +77,7 @@ logs_readied {c = c} r a = record {
 at_slots : (w w' : BareWorld) → w'.slots ≡ w.slots → (k : Key) → marks w' k ≡ marks w k
 at_slots w w' e k = ap (λ ps. marks_in (slice_get ps k.slot) k.generation) e
 
--- the tree has the command, and the world the slots that it had
+-- the tree has one more command, and the world keeps its slots
 module _ (n : Nodes) (log log' : TreeLog) (w w' : BoundedWorld) (c : Command) (is : nodes_of log w ≡ n) (tied : AreTied log w.world) (a : Logs log log' c)
     (slots : w'.world.slots ≡ w.world.slots) (limit : w'.limit ≡ w.limit) where
   tied_with : SameMarks w.world.slots (after log.tree c) → AreTied log' w'.world
@@ -94,7 +93,7 @@ module _ (n : Nodes) (log log' : TreeLog) (w w' : BoundedWorld) (c : Command) (i
       ∙ ap (made (logged log (c ∷ [])) (last_of w.world.slots) w.limit) cs
       ∙ ap (λ (m : Nodes). made (logged m.log (c ∷ [])) m.last m.limit callers) is
 
--- a caller that was just made, before it does anything
+-- a caller that was just made has changed nothing yet
 pub idle_visit : (w : BoundedWorld) (id : ℕ) (key : Key) → Visited w id key w
 idle_visit w id key = record { slots = refl; limit = refl; callers = inl refl }
 
@@ -124,7 +123,7 @@ module _ (n : Nodes) (log : TreeLog) (w w1 : BoundedWorld) (id : ℕ) (key : Key
   pub still_waits : (k : Key) × (phase : Phase) × IsCaller w1.world id k phase × IsTrue (is_waiting phase)
   still_waits = (key, Still, there1, refl)
 
-  -- it is hidden at once
+  -- nobody hides the node yet, so the caller may hide it
   pub hides_now : (result : Bool) → ((k : Key) (phase : Phase) → IsCaller w1.world id k phase → result ≡ not (is_hidden w1.world k)) → result ≡ true
   hides_now result tells = tells key Still there1 ∙ ap (λ b. not b) shown1
 
@@ -194,7 +193,7 @@ module _ (n : Nodes) (log : TreeLog) (w w1 : BoundedWorld) (id : ℕ) (key : Key
         pub seen_hidden : nodes_of log' w3 ≡ record { log = logged n.log (Hide key ∷ []); last = n.last; limit = n.limit; callers = n.callers ++ hidden_on key ∷ [] }
         seen_hidden = seen_with n log log' w w3 (Hide key) is tied a slots3 limit3 (n.callers ++ hidden_on key ∷ []) (callers3 ∙ ap (λ (m : Nodes). m.callers ++ hidden_on key ∷ []) is)
 
-  -- no caller that hides a node is on its slot: who holds a slot holds its last generation
+  -- no caller that hides a node is on this slot: a caller that holds a slot holds its last generation
   pub none_hides_there : Safe w.world → NoneHides n.callers key.slot
   none_hides_there safe = subst (λ (m : Nodes). NoneHides m.callers key.slot) is (λ d k phase there hiding same. apart d k phase there hiding same)
     where
@@ -219,7 +218,7 @@ module _ (n : Nodes) (log : TreeLog) (w w1 : BoundedWorld) (id : ℕ) (key : Key
           let e : k ≡ key = ap (λ s. made s k.generation) same ∙ ap (made key.slot) g in
           not_both (is_hidden w.world k) (hider_hidden w.world d k phase there hiding) (ap (is_hidden w.world) e ∙ unhidden)
 
--- why it was not hidden
+-- why the node was not hidden
 pub why_not_hidden : (n : Nodes) (log : TreeLog) (w : BoundedWorld) (key : Key) (refusal : Refusal) → nodes_of log w ≡ n → hold_count n.callers key.slot < n.limit → Refuses (hide_cause log.tree key) refusal →
     ((refusal ≡ TooManyHolds) × (n.limit ≤ hold_count n.callers key.slot)) ⊎ ((hold_count n.callers key.slot < n.limit) × (hide_cause n.log.tree key ≡ Some refusal)) ⊎ (refusal ≡ NoMemory)
 why_not_hidden n log w key refusal is room (inl cause) = inr (inl (room, subst (λ (m : Nodes). hide_cause m.log.tree key ≡ Some refusal) is cause))

@@ -1,4 +1,4 @@
--- Which caller holds what: the callers and the open files stay fitted to each other.
+-- Which caller holds what: callers, open files and tokens always fit each other.
 use Rattle.std.proofs.Common.{◌≡◌, ◌≢◌, ◌⊎◌, inl, inr, ℕ, zero, suc, ◌+◌, refl, ap, arith, sym, ◌∙◌, subst, Bool, true, false, cond, List, [], ◌∷◌, ◌++◌, length, slice_set}
 use Rattle.std.specs.Prelude.{Option, None, Some, slice_get, IsTrue, map, count_by, ◌==◌, ◌&&◌, not}
 use Rattle.std.specs.Option.{option_map}
@@ -21,7 +21,7 @@ use Rattle.kf_plain.specs.PlainInside.{plain_file, plain_files, plain_tokens, Is
 use Rattle.kf_plain.proofs.Counts.{none_counted, count_push, count_set}
 use Rattle.kf_plain.proofs.BoardVisits.{last_there}
 
--- the part of a whole board that speaks of callers and open files
+-- what a whole board requires of its callers, open files and tokens
 pub record AreHeld (callers : List Caller) (files : List (Option BoardFile)) (tokens : List (Option BoardToken)) : Type 0 where
   pub idle : AllIdle callers
   pub held : (file : ℕ) (f : BoardFile) → slice_get files file ≡ Some (Some f) → IsHeldFile callers f
@@ -92,19 +92,19 @@ spent_there (k ∷ keys) (suc i) c e = spent_there keys i c e
 none_spent : (slot : ℕ) (c : Caller) → c.phase ≡ Spent → ((c.key.slot == slot) && not (is_spent c.phase)) ≡ false
 none_spent slot c e = ap (λ p. (c.key.slot == slot) && not (is_spent p)) e ∙ spent_counts slot c.key
 
--- who waits hides nothing
+-- a waiting caller is not one that hides
 pub not_the_hider : (callers : List Caller) (id : ℕ) (key : Key) (d : ℕ) (k : Key) → Waits callers id key → slice_get callers d ≡ Some (hidden_on k) → d ≢ id
 not_the_hider callers id key d k w hides e = clash w.phase w.waits (ap (λ (c : Caller). c.phase) (same_Some (record { key = key; phase = w.phase }) (hidden_on k) (sym w.there ∙ ap (slice_get callers) (sym e) ∙ hides)))
   where
     clash : (p : Phase) → is_waiting p ≡ true → p ≡ Hidden → ⊥
     clash p waits is = let x : false ≡ true = ap is_waiting (sym is) ∙ waits in cc
 
--- a token stays as it was if a waiting caller does something else
+-- a token is still held after a waiting caller has changed
 hidden_still : (callers : List Caller) (id : ℕ) (key : Key) (c : Caller) (slot : ℕ) (t : BoardToken) → Waits callers id key → IsHeldToken callers slot t → IsHeldToken (slice_set callers id c) slot t
 hidden_still callers id key c slot t w h = record { hides = slice_get-set_other callers id t.hold c (not_the_hider callers id key t.hold t.key w h.hides) ∙ h.hides; in_slot = h.in_slot }
 
 module _ (callers : List Caller) (files : List (Option BoardFile)) (tokens : List (Option BoardToken)) (h : AreHeld callers files tokens) where
-  -- callers that came and released what they held
+  -- the board still fits with more callers, which have already released what they held
   pub held_spent : (keys : List Key) → AreHeld (callers ++ map spent_on keys) files tokens
   held_spent keys = record {
     idle = λ id key phase e. elim (in_either callers (map spent_on keys) id _ e) [
@@ -127,7 +127,7 @@ module _ (callers : List Caller) (files : List (Option BoardFile)) (tokens : Lis
       plus_none : (n : ℕ) → n + 0 ≡ n
       plus_none n = omega arith
 
-  -- one caller more, and the file that it is for
+  -- one more caller, and the file that it is for
   pub held_opened : (file : ℕ) (f : BoardFile) (phase : Phase) → slice_get files file ≡ Some None → IsTrue (is_waiting phase) → f.file.hold ≡ length callers → f.file.tag ≡ f.key.slot → IsShort f.file.state.text →
       AreHeld (callers ++ record { key = f.key; phase = phase } ∷ []) (slice_set files file (Some f)) tokens
   held_opened file f phase empty w hold tag short = record {
@@ -176,7 +176,7 @@ module _ (callers : List Caller) (files : List (Option BoardFile)) (tokens : Lis
       sums : (a b t c d : ℕ) → a ≡ b + t → c + 0 ≡ b + d → a + d ≡ c + t
       sums a b t c d e s = omega (arith, e, s)
 
-  -- one file less, and its caller spent
+  -- one file fewer, with its caller spent
   pub held_closed : (file : ℕ) (f : BoardFile) → slice_get files file ≡ Some (Some f) → AreHeld (slice_set callers f.file.hold (spent_on f.key)) (slice_set files file None) tokens
   held_closed file f there = record {
     idle = λ id key p e. elim (after_set callers f.file.hold id (spent_on f.key) (record { key = key; phase = p }) e) [
@@ -211,7 +211,7 @@ module _ (callers : List Caller) (files : List (Option BoardFile)) (tokens : Lis
       sums : (a b c d p q r t : ℕ) → a + p ≡ b + q → p ≡ r → q ≡ 0 → c + r ≡ d + 0 → b ≡ d + t → a ≡ c + t
       sums a b c d p q r t x y z s e = omega (arith, x, y, z, s, e)
 
--- a caller that waits takes another phase in which it waits
+-- the caller of a file goes from one waiting phase to another
 pub held_moved : (callers : List Caller) (files : List (Option BoardFile)) (tokens : List (Option BoardToken)) (h : AreHeld callers files tokens) (file : ℕ) (f : BoardFile) (phase : Phase) → slice_get files file ≡ Some (Some f) → IsTrue (is_waiting phase) → AreHeld (slice_set callers f.file.hold (record { key = f.key; phase = phase })) files tokens
 held_moved callers files tokens h file f phase there w = record {
   idle = λ id key p e. elim (after_set callers f.file.hold id (record { key = f.key; phase = phase }) (record { key = key; phase = p }) e) [
@@ -245,7 +245,7 @@ held_moved callers files tokens h file f phase there w = record {
     equal : (a b p q r : ℕ) → a + p ≡ b + q → p ≡ r → q ≡ r → a ≡ b
     equal a b p q r x y z = omega (arith, x, y, z)
 
--- a file's caller has waited on, and its file keeps something else
+-- the caller of a file does nothing, and the file's state changes
 pub held_same : (callers : List Caller) (files : List (Option BoardFile)) (tokens : List (Option BoardToken)) (h : AreHeld callers files tokens) (file : ℕ) (f f' : BoardFile) → slice_get files file ≡ Some (Some f) → f'.key ≡ f.key → f'.file.hold ≡ f.file.hold → f'.file.tag ≡ f.file.tag → IsShort f'.file.state.text →
     AreHeld callers (slice_set files file (Some f')) tokens
 held_same callers files tokens h file f f' there key hold tag short = record {

@@ -1,4 +1,4 @@
--- Which caller holds what, when the board takes a token or spends one.
+-- Which caller holds what when a token is put on the board, or is spent.
 use Rattle.std.proofs.Common.{◌≡◌, ◌≢◌, inl, inr, ℕ, ◌+◌, ◌<◌, refl, ap, arith, sym, ◌∙◌, subst, Bool, true, false, cond, List, [], ◌∷◌, ◌++◌, length, slice_set}
 use Rattle.std.specs.Prelude.{Option, None, Some, slice_get, count_by, ◌==◌, ◌&&◌, not}
 use Rattle.std.specs.Option.{option_map}
@@ -38,7 +38,7 @@ plain_other : (tokens : List (Option BoardToken)) (at slot : ℕ) (o : Option Bo
 plain_other tokens at slot o ne = slice_get-map (option_map plain_token) (slice_set tokens at o) slot ∙ ap (option_map (option_map plain_token)) (slice_get-set_other tokens at slot o ne) ∙ sym (slice_get-map (option_map plain_token) tokens slot)
 
 module _ (callers : List Caller) (files : List (Option BoardFile)) (tokens : List (Option BoardToken)) (h : AreHeld callers files tokens) where
-  -- one caller more, which hides the file of its token
+  -- one more caller, which hides the file of its token
   module _ (t : BoardToken) (first : NoneHides callers t.key.slot) (last : t.hold ≡ length callers) (inside : t.key.slot < length tokens) where
     no_token : slice_get tokens t.key.slot ≡ Some None
     no_token = let found = some_at tokens t.key.slot inside in found.1 ∙ ap (λ o. Some o) (none found.0 found.1)
@@ -96,7 +96,7 @@ module _ (callers : List Caller) (files : List (Option BoardFile)) (tokens : Lis
         sums : (a b f t p q : ℕ) → a ≡ b + p → b ≡ f + t → q ≡ t + p → a ≡ f + q
         sums a b f t p q x y z = omega (arith, x, y, z)
 
-  -- one token less, and its caller spent
+  -- one token fewer, with its caller spent
   module _ (slot : ℕ) (t : BoardToken) (at : slice_get tokens slot ≡ Some (Some t)) where
     own : IsHeldToken callers slot t
     own = h.hidden slot t at
@@ -120,7 +120,7 @@ module _ (callers : List Caller) (files : List (Option BoardFile)) (tokens : Lis
         same : (a b c : ℕ) → a ≡ b → c ≡ 0 → a + c ≡ b
         same a b c x y = omega (arith, x, y)
 
-    -- of another token that was there before
+    -- a token that is left is another one, and was there before
     old_token : (i : ℕ) (u : BoardToken) → slice_get (slice_set tokens slot None) i ≡ Some (Some u) → (i ≢ slot) × (slice_get tokens i ≡ Some (Some u))
     old_token i u e = elim (eqb_tells i slot) [
       | inl s ↦ absurd (none-some u (same_Some None (Some u) (sym (slice_get-set_same tokens slot None inside_now) ∙ ap (slice_get (slice_set tokens slot None)) (sym s.1) ∙ e)))
@@ -154,7 +154,7 @@ module _ (callers : List Caller) (files : List (Option BoardFile)) (tokens : Lis
           sums _ (hold_count callers i) (count_by (is_on i) (plain_files files)) (token_count (slice_get (plain_tokens tokens) i)) _ _ _ _ set one none (h.counted i) (one_less i);
     }
       where
-        -- one caller hides one key
+        -- a caller hides only one key
         same_slot : (i : ℕ) (u : BoardToken) → u.hold ≡ t.hold → IsHeldToken callers i u → i ≡ slot
         same_slot i u x old = sym old.in_slot ∙ ap (λ (c : Caller). c.key.slot) (same_Some (hidden_on u.key) (hidden_on t.key) (sym old.hides ∙ ap (slice_get callers) x ∙ own.hides)) ∙ own.in_slot
 

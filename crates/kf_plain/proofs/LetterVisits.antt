@@ -1,4 +1,4 @@
--- What a visit to the file of a letter makes of the board.
+-- What a visit to the file of a letter does to the board.
 use Rattle.std.proofs.Common.{◌≡◌, inl, inr, ℕ, zero, suc, refl, ap, sym, ◌∙◌, subst, Bool, List, [], ◌∷◌, length, slice_set}
 use Rattle.std.specs.Prelude.{Option, None, Some, slice_get, slice_index, slice_index_or, take, IsTrue, IsFalse, Result, Ok}
 use Rattle.std.specs.Option.{option_map}
@@ -26,7 +26,7 @@ set_same [] i x e = refl
 set_same (y ∷ xs) zero x e = ap (λ z. z ∷ xs) (sym (same_Some y x e))
 set_same (y ∷ xs) (suc i) x e = ap (λ zs. y ∷ zs) (set_same xs i x e)
 
--- a place that is empty stays so
+-- writing nothing to an empty place changes nothing on the board
 pub emptied_shown : (b : Plain) (n : Nodes) (events : List ℕ) (texts : List (List ℕ)) (files : List (Option BoardFile)) (tokens : List (Option BoardToken)) (file : ℕ) (place : Option BoardFile) → plain_of n events texts files tokens ≡ b → slice_get files file ≡ Some None → place ≡ None → plain_of n events texts (slice_set files file place) tokens ≡ b
 emptied_shown b n events texts files tokens file place is at e = ap (λ fs. plain_of n events texts fs tokens) (ap (slice_set files file) e ∙ set_same files file None at) ∙ is
 
@@ -46,7 +46,7 @@ module _ (b : Plain) (n n' : Nodes) (events events' : List ℕ) (texts texts' : 
   visited_whole short = whole_held n n' events events' texts texts' files tokens (slice_set files file (Some f')) whole (ap (λ (m : Nodes). m.log) same) (ap length same_posts) as_many (length_set files file (Some f'))
       (held_visited n.callers files tokens (held_part n events texts files tokens whole) file f f' n'.callers at waiting (ap (λ (g : BoardFile). g.key) keeps) (ap (λ (g : BoardFile). g.file.hold) keeps) (ap (λ (g : BoardFile). g.file.tag) keeps) short)
 
-  -- the board has the texts and, of the file, what it keeps now
+  -- the board has the new texts and, for the file, what the file keeps now
   pub visited_shown : plain_of n' events' texts' (slice_set files file (Some f')) tokens ≡ record (with_file b file (Some (record { key = f.key; kept = f'.file.state }))) { texts = texts' }
   visited_shown =
       ap (λ ev. plain_of n' ev texts' (slice_set files file (Some f')) tokens) same_posts
@@ -57,7 +57,7 @@ module _ (b : Plain) (n n' : Nodes) (events events' : List ℕ) (texts texts' : 
   pub read_shown : texts' ≡ texts → plain_of n' events' texts' (slice_set files file (Some f')) tokens ≡ with_file b file (Some (record { key = f.key; kept = f'.file.state }))
   read_shown t = visited_shown ∙ ap (λ ts. let v : Plain = record (with_file b file (Some (record { key = f.key; kept = f'.file.state }))) { texts = ts } in v) (t ∙ ap (λ (y : Plain). y.texts) is)
 
-  -- if it keeps what it kept
+  -- if the file keeps what it kept, only the texts are new
   pub unchanged_shown : f'.file.state ≡ f.file.state → plain_of n' events' texts' (slice_set files file (Some f')) tokens ≡ record b { texts = texts' }
   unchanged_shown e = visited_shown
       ∙ ap (λ (s : FileState). let v : Plain = record (with_file b file (Some (record { key = f.key; kept = s }))) { texts = texts' } in v) e
@@ -89,7 +89,7 @@ kept_form f f' e = e ∙ ap (λ (s : FileState). let g : BoardFile = record { ke
 pub kept_short : (n : Nodes) (events : List ℕ) (texts : List (List ℕ)) (files : List (Option BoardFile)) (tokens : List (Option BoardToken)) (whole : IsWholeBoard n events texts files tokens) (file : ℕ) (f f' : BoardFile) → slice_get files file ≡ Some (Some f) → f' ≡ f → IsShort f'.file.state.text
 kept_short n events texts files tokens whole file f f' at e = subst (λ (g : BoardFile). IsShort g.file.state.text) (sym e) (whole.held file f at).short
 
--- a store leaves as many texts
+-- a store does not change the number of texts
 stored_length : (texts texts' : List (List ℕ)) (slot : ℕ) (bytes : List ℕ) (stored : Result ℕ Fault) → Stored StoresIn texts slot bytes texts' stored → length texts' ≡ length texts
 stored_length texts texts' slot [] stored h = ap length h.1
 stored_length texts texts' slot (byte ∷ bytes) stored (inl h) = ap length h.1 ∙ length_set texts slot _

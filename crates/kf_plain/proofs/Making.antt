@@ -1,4 +1,4 @@
--- What the tree commands by paths lead to.
+-- What the tree commands that take paths lead to.
 use Rattle.std.proofs.Common.{◌≡◌, ℕ, ap, ◌∙◌, subst, Bool, true, List, [], ◌∷◌, slice_set, inl, inr}
 use Rattle.std.specs.Prelude.{Option, None, Some, Result, Ok, Err, IfOk, IfErr, MatchResult}
 use Rattle.kf_core.specs.declared.key.Key.{Key}
@@ -53,7 +53,7 @@ moved_at n n' seen seen' path dir name key into (Ok done) same same' w t none ma
         ∙ ap (λ c. ok_unless c (key, into)) none
 moved_at n n' seen seen' path dir name key into (Err refusal) same same' w t none made = tt
 
--- the second path of a move leads nowhere
+-- if the second path of a move leads nowhere, the move is refused for the same cause
 pub moved_nowhere : (log seen seen' : TreeLog) (path dir name : List ℕ) (key : Key) (refusal : Refusal) → seen ≡ log → seen' ≡ log → walked seen.tree seen.root path ≡ Ok key → walked seen'.tree seen'.root dir ≡ Err refusal → moved_key log path dir name ≡ Err refusal
 moved_nowhere log seen seen' path dir name key refusal same same' w t =
     ap (λ (r : Result Key Refusal). and_then r (λ key. and_then (walked log.tree log.root dir) (λ into. ok_unless (rename_cause log.tree log.root key into name) (key, into)))) (subst (λ (l : TreeLog). walked l.tree l.root path ≡ Ok key) same w)
@@ -61,7 +61,7 @@ moved_nowhere log seen seen' path dir name key refusal same same' w t =
 
 -- ---- why a command is refused
 
--- what it leads to depends only on this cause
+-- if only this cause stands against a request, a refusal for the cause is a refusal of the request
 pub refused_so : {X : Type 0} (cause : Option Refusal) (x : X) (leads : Result X Refusal) (refusal : Refusal) → leads ≡ ok_unless cause x → Refuses cause refusal → IsWhy leads refusal
 refused_so cause x leads refusal e (inl caused) = inl (e ∙ ap (λ c. ok_unless c x) caused)
 refused_so cause x leads refusal e (inr wanting) = inr (wanting.1, (x, e ∙ ap (λ c. ok_unless c x) wanting.0))
@@ -82,7 +82,7 @@ pub not_created_at : (n n' : Nodes) (seen : TreeLog) (path name : List ℕ) (nod
 not_created_at n n' seen path name node next dir result same w refused =
     refused_as n n' (create_cause n.log.tree n.log.root dir name node next) (spot dir name) (new_spot n.log path node next) result (spot_from n.log seen path node next dir name same w) refused
 
--- whether it may be created
+-- whether a node may be created
 pub may_be_created : (log seen seen' : TreeLog) (path name : List ℕ) (node : Node) (next : Option Key) (dir : Key) (result : Result (Unit {0}) Refusal) → seen ≡ log → seen' ≡ log → walked_parent seen.tree seen.root path ≡ Ok (dir, name)
     → MatchResult result (λ _. create_cause seen'.tree seen'.root dir name node next ≡ None) (λ cause. create_cause seen'.tree seen'.root dir name node next ≡ Some cause)
     → MatchResult result (λ _. Leads (new_spot log path node next)) (λ cause. new_spot log path node next ≡ Err cause)

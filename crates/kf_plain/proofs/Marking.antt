@@ -1,4 +1,5 @@
--- Marks of several nodes, changed one after the other: none is changed twice, and nothing else changes.
+-- The marks of several nodes are changed one after another: no node is changed twice, and nothing else
+-- changes.
 use Rattle.std.proofs.Common.{◌≡◌, ◌≢◌, inl, inr, ℕ, zero, suc, ◌<◌, refl, ap, arith, sym, ◌∙◌, Bool, true, false, List, [], ◌∷◌, length, take, slice_set}
 use Rattle.std.specs.Prelude.{Option, Some, slice_get, slice_index_or, ◌||◌, AllPairs}
 use Rattle.std.specs.Option.{option_map}
@@ -16,7 +17,7 @@ use Rattle.kf_tree.proofs.SlotWrites.{linked_slot}
 use Rattle.kf_plain.specs.Nodes.{OnlyMarks, last_of}
 use Rattle.kf_core.proofs.Climbs.{keys_tell}
 
--- a key that stands at none of the first places is not among them
+-- a key that is at none of the first places is not among the first keys
 pub not_among : (keys : List Key) (i : ℕ) (k d : Key) → ((j : ℕ) → j < i → j < length keys → slice_index_or keys j d ≢ k) → contains_key (take i keys) k ≡ false
 not_among [] zero k d h = refl
 not_among [] (suc i) k d h = refl
@@ -26,11 +27,11 @@ not_among (x ∷ xs) (suc i) k d h = elim (keys_tell x k) [
   | inr n ↦ ap (λ b. b || contains_key (take i xs) k) n.0 ∙ not_among xs i k d (λ j l w. h (suc j) (omega (arith, l)) (omega (arith, w)))
 ]
 
--- if none is there twice, the one at a place is not before it
+-- if no key comes twice, the key at a place is not among those before it
 pub not_before : (keys : List Key) (i : ℕ) (d : Key) → AllPairs (λ a b. a ≢ b) keys → i < length keys → contains_key (take i keys) (slice_index_or keys i d) ≡ false
 not_before keys i d differ h = not_among keys i (slice_index_or keys i d) d (λ j l w. differ j i d l h)
 
--- and keeps its marks until it is reached
+-- if no key comes twice, the key at a place keeps its marks until the changes reach it
 pub still_marked : (f : Bool → NodeFlags → NodeFlags) → IsMarking f → (keys : List Key) (i : ℕ) (d : Key) (old now : BareWorld) (m : NodeFlags) → AllPairs (λ a b. a ≢ b) keys → i < length keys →
     Changed f (take i keys) old.slots now.slots → marks old (slice_index_or keys i d) ≡ Some m → marks now (slice_index_or keys i d) ≡ Some m
 still_marked f marking keys i d old now m differ h changed was =
@@ -42,7 +43,7 @@ set_same [] i v h = refl
 set_same (x ∷ xs) zero v h = ap (λ y. y ∷ xs) (sym (same_Some x v h))
 set_same (x ∷ xs) (suc i) v h = ap (λ ys. x ∷ ys) (set_same xs i v h)
 
--- new marks of a linked node leave the last generations as they were
+-- new marks for a linked node do not change the last generations
 pub last_marked : (w : BareWorld) (key : Key) (m : NodeFlags) (n : Option NodeFlags) → marks w key ≡ Some m → last_of (with_marks w key n).slots ≡ last_of w.slots
 last_marked w key m n h =
     map-set (λ (s : SlotState). s.generation) w.slots key.slot _
@@ -62,7 +63,7 @@ only_marked a b key m n h e l = record {
   callers = ap (λ (w : BareWorld). w.callers) e;
 }
 
--- a node has one list of marks
+-- a node has only one set of marks, so dooming it has one result
 pub same_mark : (w : BareWorld) (key : Key) (m n : NodeFlags) → marks w key ≡ Some m → marks w key ≡ Some n →
     with_marks w key (Some (let d : NodeFlags = record { activated = m.activated; doomed = true } in d)) ≡ with_marks w key (Some (let d : NodeFlags = record { activated = n.activated; doomed = true } in d))
 same_mark w key m n h g = ap (λ (x : NodeFlags). with_marks w key (Some (let d : NodeFlags = record { activated = x.activated; doomed = true } in d))) (same_Some m n (sym h ∙ g))

@@ -1,4 +1,4 @@
--- New holds of several linked nodes, one after the other.
+-- New holds of several linked nodes, taken one after another.
 use Rattle.std.proofs.Common.{◌≡◌, ◌≢◌, inl, inr, ℕ, zero, suc, ◌+◌, ◌^◌, ◌<◌, ◌≤◌, refl, ap, arith, sym, ◌∙◌, subst, true, false, cond, List, [], ◌∷◌, ◌++◌, length, take, drop, append_assoc}
 use Rattle.std.specs.Prelude.{Option, None, Some, slice_get, slice_index_or, is_some, map, IsTrue, All, AllPairs, ◌&&◌}
 use Rattle.std.specs.Option.{option_map}
@@ -24,14 +24,14 @@ some_of : {X : Type 0} (o : Option X) → is_some o ≡ true → (x : X) × (o �
 some_of None h = absurd (cc)
 some_of (Some x) h = (x, refl)
 
--- no two linked nodes are in one slot
+-- no two linked nodes are in the same slot
 slots_differ : (w : BareWorld) (a b : Key) → is_linked w a ≡ true → is_linked w b ≡ true → a ≢ b → a.slot ≢ b.slot
 slots_differ w a b ha hb n s =
     (let m = some_of (marks w a) ha in
     let m' = some_of (marks w b) hb in
     none-some m'.0 (sym ((alone_linked w.slots a m.0 m.1).alone b (sym s) (λ e. n (sym e))) ∙ m'.1))
 
--- holds of other slots do not count
+-- holds of other slots are not counted
 other_holds : (cs : List Caller) (keys : List Key) (slot : ℕ) → ((i : ℕ) (k : Key) → slice_get keys i ≡ Some k → k.slot ≢ slot) → hold_count (cs ++ map still_on keys) slot ≡ hold_count cs slot
 other_holds cs keys slot differ =
     (let whole = sum_by-append (λ (c : Caller). cond (holds_slot slot c) 1 0) cs (map still_on keys) in
@@ -48,7 +48,7 @@ other_holds cs keys slot differ =
           | inr s ↦ ap (λ b. b && true) s.0
         ])
 
--- the first this many of the nodes are held
+-- this many of the nodes, from the first one on, are held
 pub record ArePinned (w0 w : BoundedWorld) (keys : List Key) (first n : ℕ) : Type 0 where
   pub held : w ≡ with_callers w0 (w0.world.callers ++ map still_on (take n keys))
   pub number : first ≡ length w0.world.callers
@@ -120,7 +120,7 @@ module _ (w0 w : BoundedWorld) (keys : List Key) (n : ℕ) (d : Key) (within : n
   pin_refused NoSpace h = absurd h
   pin_refused NameTooLong h = absurd h
 
-  -- one hold more
+  -- one more hold
   pub one_pinned : (w' : BoundedWorld) (first id : ℕ) → ArePinned w0 w keys first n → Happens w (Pin id next) w' → id < 2 ^ 64 → holds w.world next.slot < w.limit → ArePinned w0 w' keys first (n + 1)
   one_pinned w' first id before h small room = record {
     held = ap (λ v. bounded v w'.limit) h.steps.2 ∙ ap (bounded (with_caller w.world next)) h.limit
@@ -150,7 +150,7 @@ pub released_still : (keys : List Key) → map released (map still_on keys) ≡ 
 released_still [] = refl
 released_still (k ∷ ks) = ap (λ l. spent_on k ∷ l) (released_still ks)
 
--- callers who hold these nodes come after the others
+-- the callers that hold these nodes come after all others
 module _ (w0 w : BoundedWorld) (keys : List Key) (first : ℕ) (held : w ≡ with_callers w0 (w0.world.callers ++ map still_on keys)) (number : first ≡ length w0.world.callers) where
   pub last_callers : drop first w.world.callers ≡ map still_on keys
   last_callers = ap (λ (v : BoundedWorld). drop first v.world.callers) held ∙ drop_at w0.world.callers (map still_on keys) first (sym number)
@@ -171,6 +171,6 @@ module _ (w0 w : BoundedWorld) (keys : List Key) (first : ℕ) (held : w ≡ wit
   pub released_callers : take first w.world.callers ++ map released (drop first w.world.callers) ≡ w0.world.callers ++ map spent_on keys
   released_callers = ap (λ l. l ++ map released (drop first w.world.callers)) first_callers ∙ ap (λ l. w0.world.callers ++ l) (ap (map released) last_callers ∙ released_still keys)
 
-  -- they are given back
+  -- these holds are released
   pub given_back : (w' : BoundedWorld) → w' ≡ with_callers w (take first w.world.callers ++ map released (drop first w.world.callers)) → w' ≡ with_callers w0 (w0.world.callers ++ map spent_on keys)
   given_back w' e = e ∙ ap (with_callers w) released_callers ∙ ap (λ (v : BoundedWorld). with_callers v (w0.world.callers ++ map spent_on keys)) held

@@ -12,7 +12,7 @@ use Rattle.kf_plain.specs.PlainInside.{IsShort}
 text_short : (page : List ℕ) → length (text_of page) ≤ 4095
 text_short page = let e = length-take 4095 page in omega (arith, e)
 
--- what a show leaves is short
+-- the text that a show leaves is short
 shown_short : (state : FileState) (came : Option ShowResult) → IsShort state.text → IsShort (file_after state came).text
 shown_short state None h = h
 shown_short state (Some shown) h = go shown.filled
@@ -46,7 +46,7 @@ take_all zero (x ∷ xs) h = absurd (omega (arith, h))
 take_all (suc n) [] h = refl
 take_all (suc n) (x ∷ xs) h = ap (λ ys. x ∷ ys) (take_all n xs (omega (arith, h)))
 
--- at most what is buffered is read
+-- the text in the buffer is short
 text_in_short : (t : Option (List ℕ)) → IsShort t → length (unwrap_or t []) ≤ 4095
 text_in_short None h = omega arith
 text_in_short (Some text) h = h
@@ -58,7 +58,7 @@ slice_fits state offset most bytes short is =
     let all = ap length is in
     omega (arith, all, cut, rest)
 
--- a read, in other words
+-- a read, restated with other facts about its visit and its result
 module _ (V V' : Visit ShowResult → Type 0) (to : (v : Visit ShowResult) → V v → V' v) (A A' : Result (List ℕ) FileError → Type 0) (tells : (a : Result (List ℕ) FileError) → A a → A' a) (state : FileState) (offset most : ℕ) (state' : FileState) where
   pub reads_as : Reads V A state offset most state' → Reads V' A' state offset most state'
   reads_as r = record {

@@ -1,4 +1,4 @@
--- Callers at the end of the list release their keys, one after the other.
+-- The callers at the end of the list release their keys, one after another.
 use Rattle.std.proofs.Common.{◌≡◌, ℕ, ◌+◌, ◌<◌, ap, arith, ◌∙◌, length, take, drop, slice_set}
 use Rattle.std.specs.Prelude.{Some, slice_get, slice_index_or, IsTrue, All}
 use Rattle.std.proofs.lemmas.List.{length-take-le, length-drop}

@@ -1,4 +1,4 @@
--- A removal from its first pin to its last release, as the value sees it that contracts see.
+-- A removal, from its first pin to its last release, as contracts see it.
 use Rattle.std.proofs.Common.{◌≡◌, ◌≢◌, ◌⊎◌, inl, inr, ℕ, zero, suc, ◌<◌, ◌≤◌, refl, ap, sym, ◌∙◌, subst, Bool, true, false, cond, List, [], ◌∷◌, ◌++◌, length, take, drop, append_assoc, nat_lt}
 use Rattle.std.specs.Prelude.{Option, None, Some, slice_get, slice_index_or, is_some, map, not, ◌&&◌, IsFalse, All, AllPairs, Contains}
 use Rattle.std.specs.Option.{option_map}
@@ -40,13 +40,13 @@ use Rattle.kf_plain.proofs.Ties.{Logs, log_after}
 
 -- ---- why it is refused
 
--- a refusal of a removal
+-- why a removal is refused: a cause against the doom; if there is none, a full slot below, or lack of memory
 abbrev pub WhyRefused : Nodes → Key → Refusal → Type 0
 WhyRefused n key refusal = (doom_cause n.log.tree n.log.root key ≡ Some refusal)
     ⊎ ((doom_cause n.log.tree n.log.root key ≡ None) × (refusal ≡ TooManyHolds) × (has_full_below n key ≡ true))
     ⊎ ((doom_cause n.log.tree n.log.root key ≡ None) × (refusal ≡ NoMemory))
 
--- and what it leaves: the callers that came have released their keys
+-- why a removal is refused, and what it leaves: its new callers have released their keys
 abbrev pub RefusedSo : Nodes → Key → Refusal → Nodes → Type 0
 RefusedSo n key refusal n' = WhyRefused n key refusal × ((spent : List Key) × (n' ≡ with_spent n spent))
 
@@ -88,7 +88,7 @@ module _ (s : TreeLog) (w : BoundedWorld) (key : Key) (keys : List Key) (tied : 
       at (Some r) i h = go (in_subtree s.tree key r.key) (not (nat_lt (hold_count w.world.callers r.key.slot) w.limit))
           (not_full r (ap (slice_get s.tree) (tied.kept.lawful.in_place i r h) ∙ h))
 
-  -- a hold was refused
+  -- a removal is refused if one of its holds is
   pub pins_refused : (w1 : BoundedWorld) (refusal : Refusal) → doom_cause s.tree s.root key ≡ None → PinsRefused w keys refusal × ((spent : List Key) × (w1 ≡ with_callers w (w.world.callers ++ map spent_on spent))) → RefusedSo (nodes_of s w) key refusal (nodes_of s w1)
   pins_refused w1 refusal none h = (why h.0, (h.1.0, ap (nodes_of s) h.1.1))
     where
@@ -196,7 +196,7 @@ module _ (s : TreeLog) (w : BoundedWorld) (key : Key) (keys : List Key) (tied : 
           ∙ ap (λ m. made (logged s (Doom key ∷ map Unlink keys)) (last_of w.world.slots) m w3.world.callers) (limit ∙ only.limit ∙ ap (λ (v : BoundedWorld). v.limit) held)
           ∙ ap (made (logged s (Doom key ∷ map Unlink keys)) (last_of w.world.slots) w.limit) callers_now)
 
--- the tree's refusal of a doom, after which the holds are given back
+-- a removal is refused if the tree refuses the doom, and its holds are released
 pub doom_refused : (s s1 : TreeLog) (w w' : BoundedWorld) (key : Key) (keys : List Key) (refusal : Refusal) → Refuses (doom_cause s.tree s.root key) refusal → s1 ≡ s → w' ≡ with_callers w (w.world.callers ++ map spent_on keys) → RefusedSo (nodes_of s w) key refusal (nodes_of s1 w')
 doom_refused s s1 w w' key keys refusal named same back = (why named, (keys, ap (λ l. nodes_of l w') same ∙ ap (nodes_of s) back))
   where

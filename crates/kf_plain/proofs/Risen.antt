@@ -1,4 +1,4 @@
--- The fresh nodes of a subtree rise, and the world has the marks of the tree after its activation.
+-- The fresh nodes of a subtree rise, and then the world has the marks of the tree after its activation.
 use Rattle.std.proofs.Common.{◌≡◌, ◌≢◌, inl, inr, refl, ap, sym, ◌∙◌, subst, Bool, true, false, cond, List, [], ◌∷◌, length}
 use Rattle.std.specs.Prelude.{Option, None, Some, ◌||◌, ◌&&◌, not, All, AllPairs, filter}
 use Rattle.std.specs.Option.{option_map}
@@ -48,7 +48,7 @@ contains_filtered test (x ∷ xs) k =
       ]
     ] refl
 
--- a rise of those that are not fresh is none
+-- the rise of a node that is not fresh changes nothing, so to raise the fresh ones is to raise all
 same_filtered : (t : Tree) (keys : List Key) (w new : BareWorld) → SameMarks w.slots t → Changed risen_if (filter (is_fresh_key t) keys) w.slots new.slots → Changed risen_if keys w.slots new.slots
 same_filtered t keys w new same changed k =
     changed k ∙ ap (λ b. option_map (risen_if b) (marks w k)) (contains_filtered (is_fresh_key t) keys k) ∙ go (marks w k) (same k)

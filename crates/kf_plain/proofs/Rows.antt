@@ -1,4 +1,4 @@
--- A row at the end of a list, whose items are changed one after the other.
+-- A row at the end of a list, whose items are changed one after another.
 use Rattle.std.proofs.Common.{◌≡◌, ℕ, zero, suc, ◌+◌, ◌<◌, ◌≤◌, refl, ap, arith, sym, ◌∙◌, List, [], ◌∷◌, ◌++◌, length, take, drop, slice_set, append_assoc}
 use Rattle.std.specs.Prelude.{Some, slice_get, slice_index_or, map}
 use Rattle.std.proofs.lemmas.Option.{none-some}
@@ -21,7 +21,7 @@ module _ {X : Type 0} where
   slice_get_front (y ∷ ys) (suc n) (suc i) x h = slice_get_front ys n i x h
 
 module _ {X : Type 0} (f : X → X) (front row : List X) where
-  -- the first this many of the row are changed
+  -- the list after this many items of the row, from its first one on, were changed
   abbrev pub partly : ℕ → List X
   partly i = (front ++ map f (take i row)) ++ drop i row
 

@@ -1,4 +1,4 @@
--- A write on the board: what its store returned settles the request.
+-- A write on the board: what its store returned decides which step of the board it is.
 use Rattle.std.proofs.Common.{◌≡◌, ℕ, Bool, true, false, List, [], ◌∷◌, Option, None, Some, Result, Ok, IsTrue, inl, inr, refl, sym, ap, subst, ◌∙◌}
 use Rattle.kf_core.specs.declared.refusal.Refusal.{Refusal}
 use Rattle.kf_core.specs.declared.refusal.Refusal.TheVariants.{Access, NoDevice}
@@ -16,7 +16,7 @@ use Rattle.kf_replies.specs.ReplyParts.{count_text}
 use Rattle.kf_plain.specs.Settled.{Settled, ok_unless}
 use Rattle.kf_plain.specs.PlainStep.{PlainStep}
 
--- the visits of a write whose store is this
+-- the visit of a write that stores by this relation
 abbrev visits : (Plain → ℕ → List ℕ → Result ℕ Fault → Plain → Type 0) → Plain → OpenPlainFile → List ℕ → Plain → Visit (Result ℕ Fault) → Type 0
 visits stores b opened text now visit = VisitsNode b opened.key (now ≡ b) (λ stored. Stored stores b opened.key.slot text now stored) visit
 
@@ -34,7 +34,7 @@ denied b text now opened answer e writes = record {
   stored = λ yes. absurd (let bad : false ≡ true = sym e ∙ yes in cc);
 }
 
--- it was, and this came of the visit
+-- the file was opened for writing, and this is the result of its visit
 stored : (b : Plain) (text : List ℕ) (now : Plain) (opened : OpenPlainFile) (answer : Result ℕ FileError) (came : Option (Result ℕ Fault)) → opened.kept.want.write ≡ true
     → visits StoresText b opened text now (tried came) → answer ≡ told_of (λ count. count) came → Writes (visits StoresText b opened text now) opened.kept answer
 stored b text now opened answer came e visited told = record {
@@ -42,7 +42,7 @@ stored b text now opened answer came e visited told = record {
   stored = λ yes. (came, visited, told);
 }
 
--- nothing refuses its store
+-- nothing refuses the store if the file was opened for writing and its node is live
 may_store : (b : Plain) (file : ℕ) (opened : OpenPlainFile) → known_file b file ≡ Ok opened → opened.kept.want.write ≡ true → live_in b.log.tree opened.key ≡ true → stored_file b file ≡ Ok opened
 may_store b file opened leads may live =
     ap (λ (r : Result OpenPlainFile Refusal). and_then r (λ f. ok_unless (first_cause (unless f.kept.want.write Access ∷ unless (live_in b.log.tree f.key) NoDevice ∷ [])) f)) leads
@@ -67,7 +67,7 @@ written_by b file text reply now opened answer true e leads told writes =
     let (came, visited, from) = writes.stored may in
     written_under b file text reply now opened answer came leads told e visited from
 
--- a write that got its store's result
+-- a write is a step of the board, whatever its store returned
 pub written : (b : Plain) (file : ℕ) (text reply : List ℕ) (now : Plain) (opened : OpenPlainFile) (answer : Result ℕ FileError)
     → known_file b file ≡ Ok opened → reply ≡ count_text answer → Writes (visits StoresOnBoard b opened text now) opened.kept answer → (starved : Bool) × PlainStep b (write_file file text) starved reply now
 written b file text reply now opened answer leads told writes = written_by b file text reply now opened answer opened.kept.want.write refl leads told writes

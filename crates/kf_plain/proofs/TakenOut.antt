@@ -1,4 +1,4 @@
--- Nodes are taken out of the tree and of the world, one after the other.
+-- Nodes are taken out of the tree and of the world, one after another.
 use Rattle.std.proofs.Common.{◌≡◌, ◌≢◌, ◌⊎◌, inl, inr, ℕ, zero, suc, ◌+◌, ◌<◌, refl, ap, arith, sym, ◌∙◌, subst, Bool, true, false, cond, List, [], ◌∷◌, ◌++◌, length, take, slice_set, append_assoc}
 use Rattle.std.specs.Prelude.{Option, None, Some, slice_get, slice_index_or, is_some, map, drop, not, ◌&&◌, ◌||◌, IsFalse, All, AllPairs}
 use Rattle.std.specs.Option.{option_map}
@@ -41,7 +41,7 @@ use Rattle.kf_plain.proofs.Rows.{partly, partly_at, partly_more}
 use Rattle.kf_core.proofs.FoundRecords.{in_found, found_in, find_at, find_cleared, linked_here}
 use Rattle.kf_plain.proofs.Ties.{logs, log_after}
 
--- what of each record is left once these are taken out
+-- what is left of each record once the nodes of these keys are taken out
 abbrev pub Left : List Key → Tree → Tree → Type 0
 Left keys old new = (k : Key) → record_at new k ≡ cond (contains_key keys k) None (record_at old k)
 
@@ -51,7 +51,7 @@ one_less true false o = refl
 one_less false true o = refl
 one_less false false o = refl
 
--- the record of each key after one is taken out
+-- the record of each key after one node is taken out
 pub record_unlinked : (t : Tree) (x k : Key) → is_linked t x ≡ true → record_at (after t (Unlink x)) k ≡ cond (same_key x k) None (record_at t k)
 record_unlinked t x k linked =
     (let r = linked_here t x linked in
@@ -70,7 +70,7 @@ logged_more log cs c =
     (let made : Tree → List Command → TreeLog = λ t l. record { root = log.root; tree = t; commands = l; ready = None } in
     ap (λ t. made t ((log.commands ++ cs) ++ c ∷ [])) (sym (replay_push log.tree cs c)) ∙ ap (made (replay log.tree (cs ++ c ∷ []))) (append_assoc log.commands cs (c ∷ [])))
 
--- these nodes were taken out, and nobody has a reference
+-- these nodes have been taken out, and nobody has a reference
 pub record HasTaken (s0 s : TreeLog) (w0 w : BoundedWorld) (keys : List Key) : Type 0 where
   pub log : s ≡ logged s0 (map Unlink keys)
   pub kept : IsKept s
@@ -116,7 +116,7 @@ module _ (s0 s : TreeLog) (w0 w : BoundedWorld) (keys : List Key) (i : ℕ) (d :
   pub next_linked : is_linked s.tree next ≡ true
   next_linked = linked_marked s.tree next next_doomed.0 (sym (taken.same next) ∙ next_doomed.1)
 
-  -- the next node has no children any more
+  -- the next node no longer has children
   childless : AreChildrenFirst s0.tree keys → has_child s.tree next ≡ false
   childless children = list_any_none (is_under next (λ r. true)) s.tree (λ j o l. at (slice_index_or s.tree j o) j (slice_get-get_or s.tree j o l))
     where
@@ -172,7 +172,7 @@ map_item f [] (suc i) d = refl
 map_item f (x ∷ xs) zero d = refl
 map_item f (x ∷ xs) (suc i) d = map_item f xs i d
 
--- the callers from this number on hold the nodes, and the first of them have released theirs
+-- the callers from this number on hold the nodes, except for the first of them, which have released theirs
 module _ (w0 w : BoundedWorld) (first : ℕ) (keys : List Key) (i : ℕ) (d : Key) (within : i < length keys) (row : drop first w0.world.callers ≡ map still_on keys)
     (so_far : w.world.callers ≡ partly released (take first w0.world.callers) (drop first w0.world.callers) i) where
   in_row : i < length (drop first w0.world.callers)

@@ -1,4 +1,4 @@
--- The tree and the callers' world are tied: slots, births, and what each command makes of both.
+-- The tree and the callers' world are tied: slots, births, and what each command does to both.
 use Rattle.std.proofs.Common.{◌≡◌, inl, inr, ℕ, zero, suc, ◌+◌, ◌-◌, ◌^◌, ◌<◌, ◌≤◌, refl, ap, arith, sym, ◌∙◌, subst, Bool, true, false, cond, List, [], ◌∷◌, ◌++◌, length, slice_set, nat_lt}
 use Rattle.std.specs.Prelude.{Option, None, Some, slice_get, slice_index, IsFalse, ◌==◌, ◌&&◌, not, IfSome, IfNone, IfOk, IfErr, Result, Ok, Err}
 use Rattle.std.specs.Option.{option_map, option_and_then}
@@ -45,7 +45,7 @@ some_at (x ∷ xs) (suc i) h = some_at xs i (omega (arith, h))
 vacant_marks : (t : Tree) (slot g : ℕ) → slice_get t slot ≡ Some None → marks_of t (record { slot = slot; generation = g }) ≡ None
 vacant_marks t slot g h = ap (λ (o : Option (Option Record)). option_map (λ (r : Record). r.marks) (option_and_then (with_key (record { slot = slot; generation = g })) o)) h
 
--- a slot that the tree has vacant is vacant in the world
+-- a slot that is vacant in the tree is vacant in the world
 pub vacant_in_world : (log : TreeLog) (w : BareWorld) (slot : ℕ) → AreTied log w → slice_get log.tree slot ≡ Some None → (last : ℕ) × (slice_get w.slots slot ≡ Some (record { generation = last; marks = None }))
 vacant_in_world log w slot tied h =
     let found = some_at w.slots slot (let in_tree = slice_get_within log.tree slot None h in let wide = tied.slots in omega (arith, in_tree, wide)) in
@@ -61,7 +61,7 @@ vacant_in_world log w slot tied h =
         same_generation : (g : ℕ) (m : Option NodeFlags) → cond (g == g) m None ≡ m
         same_generation g m = elim (eqb_tells g g) [ inl y ↦ ap (λ b. cond b m None) y.0 | inr n ↦ absurd (n.1 refl) ]
 
--- and the other way round
+-- a slot that is vacant in the world is vacant in the tree
 pub vacant_in_tree_too : (log : TreeLog) (w : BareWorld) (slot last : ℕ) → AreTied log w → slice_get w.slots slot ≡ Some (record { generation = last; marks = None }) → slice_get log.tree slot ≡ Some None
 vacant_in_tree_too log w slot last tied h = vacant_in_tree w.slots log.tree log.root (record { slot = slot; generation = last }) tied.marks tied.kept.lawful tied.slots (record { last = last; vacant = h })
 
@@ -151,7 +151,7 @@ not_free log w slot tied h = elim (is_free log.tree (last_of w.slots) (hold_coun
   | false ↦ λ e. refl
 ] refl
 
--- the search of the world finds the next key
+-- a search of the world finds the next key
 pub next_found : (log : TreeLog) (w : BareWorld) (next : Option Key) → AreTied log w → IfSome next (λ key. IsNextKey w key) → IfNone next ((slot : ℕ) → 1 ≤ slot → ¬ IsFree w slot) → IsFreeKeyOf log.tree (last_of w.slots) (hold_count w.callers) next
 next_found log w None tied found none = λ slot h. not_free log w slot tied (none slot h)
 next_found log w (Some key) tied found none = (
@@ -175,7 +175,7 @@ next_is tree last count next key h e = subst (IsFreeKeyOf tree last count) e h
 
 -- ---- commands
 
--- a command was accepted, whatever could have been against it
+-- a command was accepted, whatever might have been a cause against it
 pub record Logs (log log' : TreeLog) (c : Command) : Type 0 where
   pub same_root : log'.root ≡ log.root
   pub changed : log'.tree ≡ after log.tree c
@@ -193,7 +193,7 @@ logs_live log log' key parent name node is_live told e a = subst (λ b. Logs log
 abbrev pub IsUndoomed : BareWorld → Type 0
 IsUndoomed w = (key : Key) (m : NodeFlags) → marks w key ≡ Some m → m.doomed ≡ false
 
--- nor after a write of marks that are not doomed
+-- no linked node is doomed after a write of marks that are not doomed, either
 pub undoomed_written : (w : BareWorld) (key : Key) (m : NodeFlags) → IsAlone w.slots key → m.doomed ≡ false → IsUndoomed w → IsUndoomed (with_marks w key (Some m))
 undoomed_written w key m alone fine none k n h = go (same_key key k) (sym (marks_written w.slots key k (Some m) alone) ∙ h)
   where
@@ -201,7 +201,7 @@ undoomed_written w key m alone fine none k n h = go (same_key key k) (sym (marks
     go true e = ap (λ (x : NodeFlags). x.doomed) (sym (same_Some m n e)) ∙ fine
     go false e = none k n e
 
--- both stay tied if the world has the marks of the new tree
+-- tree and world stay tied if the world has the marks of the new tree
 pub tied_after : (log log' : TreeLog) (w w' : BareWorld) (c : Command) → AreTied log w → Logs log log' c → length w'.slots ≡ length w.slots → SameMarks w'.slots (after log.tree c) → IsUndoomed w' → AreTied log' w'
 tied_after log log' w w' c tied a wide same none = record {
   kept = a.kept;
@@ -249,17 +249,16 @@ module _ (log log' : TreeLog) (w w1 : BareWorld) (key parent : Key) (name : List
       set_twice (x ∷ xs) zero n = refl
       set_twice (x ∷ xs) (suc i) n = ap (λ ys. x ∷ ys) (set_twice xs i n)
 
--- a rename is nothing to the world
+-- a rename changes nothing in the world
 pub tied_renamed : (log log' : TreeLog) (w : BareWorld) (key dir : Key) (name : List ℕ) → AreTied log w → Logs log log' (Rename key dir name) → AreTied log' w
 tied_renamed log log' w key dir name tied a = tied_after log log' w w (Rename key dir name) tied a refl (same_renamed w.slots log.tree key dir name tied.marks) tied.undoomed
 
--- ---- the same, of the value that contracts see
+-- ---- the same for the value that contracts see
 
 pub seen_next : (n : Nodes) (log : TreeLog) (w : BoundedWorld) (next : Option Key) (key : Key) → nodes_of log w ≡ n → IsFreeKeyOf n.log.tree n.last (hold_count n.callers) next → next ≡ Some key → AreTied log w.world → MayBeBorn w.world key
 seen_next n log w next key is h e tied = may_be_born log w.world key tied (next_is log.tree (last_of w.world.slots) (hold_count w.world.callers) next key (subst (λ (m : Nodes). IsFreeKeyOf m.log.tree m.last (hold_count m.callers) next) (sym is) h) e)
 
--- the value after a command, if the world has these last generations, and the limit and the callers that it
--- had
+-- the value after some commands, if the world has these last generations, and keeps its limit and its callers
 pub seen_after : (n : Nodes) (log log' : TreeLog) (w w' : BoundedWorld) (cs : List Command) (last : List ℕ) → nodes_of log w ≡ n → log' ≡ logged log cs → last_of w'.world.slots ≡ last → w'.limit ≡ w.limit → w'.world.callers ≡ w.world.callers →
     nodes_of log' w' ≡ record { log = logged n.log cs; last = last; limit = n.limit; callers = n.callers }
 seen_after n log log' w w' cs last is l g m cs' =
@@ -272,7 +271,7 @@ seen_after n log log' w w' cs last is l g m cs' =
 pub seen_last : (n : Nodes) (log : TreeLog) (w : BoundedWorld) → nodes_of log w ≡ n → last_of w.world.slots ≡ n.last
 seen_last n log w is = ap (λ (m : Nodes). m.last) is
 
--- a rename, whatever came of it
+-- tree and world stay tied after a rename, whatever its result
 pub renamed_stays_tied : (log log' : TreeLog) (w : BareWorld) (key dir : Key) (name : List ℕ) (cause : Option Refusal) (result : Result (Unit {0}) Refusal) → AreTied log w →
     IfOk result (λ _. is_there_already log.tree key dir name ≡ true → log' ≡ log) → IfOk result (λ _. is_there_already log.tree key dir name ≡ false → IsAccepted log log' cause (Rename key dir name)) → IfErr result (λ refusal. IsRefused log log' cause refusal) → AreTied log' w
 renamed_stays_tied log log' w key dir name cause (Ok done) tied stays accepted refused =

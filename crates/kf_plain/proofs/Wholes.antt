@@ -1,4 +1,4 @@
--- The parts of a plain board stay fitted to each other when one or two of them change.
+-- The parts of a plain board still fit each other after one or two of them have changed.
 use Rattle.std.proofs.Common.{◌≡◌, ℕ, ◌≤◌, ap, sym, ◌∙◌, subst, List, length, slice_set}
 use Rattle.std.specs.Prelude.{Option}
 use Rattle.std.proofs.Math.Path.{fun_ext}
@@ -17,7 +17,7 @@ use Rattle.kf_core.proofs.Lists.{length_set}
 use Rattle.kf_plain.proofs.BoardTags.{AllTagged, AreTaggedCommands, tagged_replay}
 
 module _ (n : Nodes) (events : List ℕ) (texts : List (List ℕ)) (files : List (Option BoardFile)) (tokens : List (Option BoardToken)) (whole : IsWholeBoard n events texts files tokens) where
-  -- another tree of as many slots, with the same callers
+  -- with another tree of as many slots, and the same callers
   whole_changed : (n' : Nodes) → length n'.log.tree ≡ length n.log.tree → AllTagged n'.log.tree → n'.callers ≡ n.callers → IsWholeBoard n' events texts files tokens
   whole_changed n' same_length tagged c = record {
     few = rw same_length whole.few;
@@ -33,16 +33,16 @@ module _ (n : Nodes) (events : List ℕ) (texts : List (List ℕ)) (files : List
     counted = λ slot. ap (λ cs. hold_count cs slot) c ∙ whole.counted slot;
   }
 
-  -- other stored commands
+  -- with other stored commands
   pub whole_listed : (n' : Nodes) (cs : List Command) → n'.log ≡ listed n.log cs → n'.callers ≡ n.callers → IsWholeBoard n' events texts files tokens
   whole_listed n' cs l c = whole_changed n' (ap (λ (l : TreeLog). length l.tree) l) (subst (λ (l : TreeLog). AllTagged l.tree) (sym l) whole.tagged) c
 
-  -- after commands, whatever the last generations are, with the same callers
+  -- after some commands, whatever the last generations are, with the same callers
   pub whole_after : (n' : Nodes) (cs : List Command) → AreTaggedCommands cs → n'.log ≡ logged n.log cs → n'.callers ≡ n.callers → IsWholeBoard n' events texts files tokens
   whole_after n' cs x l c = whole_changed n' (ap (λ (l : TreeLog). length l.tree) l ∙ length_replay n.log.tree cs)
       (subst (λ (l : TreeLog). AllTagged l.tree) (sym l) (tagged_replay n.log.tree cs x whole.tagged)) c
 
-  -- another text of a slot
+  -- with another text for one slot
   pub whole_text : (slot : ℕ) (text : List ℕ) → IsWholeBoard n events (slice_set texts slot text) files tokens
   whole_text slot text = record {
     few = whole.few;
@@ -64,7 +64,7 @@ module _ (n : Nodes) (events : List ℕ) (texts : List (List ℕ)) (files : List
 pub held_part : (n : Nodes) (events : List ℕ) (texts : List (List ℕ)) (files : List (Option BoardFile)) (tokens : List (Option BoardToken)) → IsWholeBoard n events texts files tokens → AreHeld n.callers files tokens
 held_part n events texts files tokens w = record { idle = w.idle; held = w.held; apart = w.apart; hidden = w.hidden; counted = w.counted }
 
--- the same tree, other callers and files that fit each other, and as many event numbers and texts
+-- with the same tree, other callers and files that fit each other, and as many event numbers and texts
 pub whole_held : (n n' : Nodes) (events events' : List ℕ) (texts texts' : List (List ℕ)) (files : List (Option BoardFile)) (tokens : List (Option BoardToken)) (files' : List (Option BoardFile)) → IsWholeBoard n events texts files tokens → n'.log ≡ n.log → length events' ≡ length events → length texts' ≡ length texts → length files' ≡ length files → AreHeld n'.callers files' tokens → IsWholeBoard n' events' texts' files' tokens
 whole_held n n' events events' texts texts' files tokens files' w l e t f h = record {
   few = subst (λ (x : TreeLog). length x.tree ≤ most_slots) (sym l) w.few;
@@ -80,7 +80,7 @@ whole_held n n' events events' texts texts' files tokens files' w l e t f h = re
   counted = h.counted;
 }
 
--- another tree of as many slots, and other callers and tokens that fit each other
+-- with another tree of as many slots, and other callers and tokens that fit each other
 pub whole_tokens : (n n' : Nodes) (events : List ℕ) (texts : List (List ℕ)) (files : List (Option BoardFile)) (tokens tokens' : List (Option BoardToken)) → IsWholeBoard n events texts files tokens →
     length n'.log.tree ≡ length n.log.tree → AllTagged n'.log.tree → length tokens' ≡ length tokens → AreHeld n'.callers files tokens' → IsWholeBoard n' events texts files tokens'
 whole_tokens n n' events texts files tokens tokens' w same_length tagged t h = record {

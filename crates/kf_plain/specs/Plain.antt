@@ -8,7 +8,7 @@ use Rattle.kf_tree.specs.TreeLogs.{TreeLog}
 use Rattle.kf_pages.specs.Files.{FileState}
 use Rattle.kf_plain.specs.Nodes.{IsFreeKeyOf, listed, logged, root_key}
 
--- an open file: the key of its node, and what it keeps
+-- an open file: the key of its node, and the state that it keeps
 pub record OpenPlainFile : Type 0 where
   pub key : Key
   pub kept : FileState
@@ -23,7 +23,7 @@ pub record Plain : Type 0 where
   pub files : List (Option OpenPlainFile)  -- by the place of its letter in the alphabet
   pub tokens : List (Option Key)  -- by slot, the file that the board hides
 
--- a new board: only the root, and each slot's last generation is `start`
+-- a new board of only the root, if each slot has had `start` generations before
 abbrev pub new_board : ℕ → ℕ → ℕ → Plain
 new_board slots holds start = record {
   log =
@@ -42,12 +42,12 @@ new_board slots holds start = record {
 abbrev pub file_at : Plain → ℕ → Option OpenPlainFile
 file_at b file = option_and_then (λ opened. opened) (slice_get b.files file)
 
--- there is an open file, and its node is in this slot
+-- whether there is an open file, and its node is in this slot
 abbrev pub is_on : ℕ → Option OpenPlainFile → Bool
 is_on slot None = false
 is_on slot (Some opened) = opened.key.slot == slot
 
--- the file that the board hides in this slot, and which only the board can show again
+-- the key of the file that the board hides in this slot, if any; only the board can show it again
 abbrev pub token_at : Plain → ℕ → Option Key
 token_at b slot = option_and_then (λ token. token) (slice_get b.tokens slot)
 
@@ -61,28 +61,28 @@ token_count (Some (Some key)) = 1
 abbrev pub count_on : List (Option OpenPlainFile) → List (Option Key) → ℕ → ℕ
 count_on files tokens slot = count_by (is_on slot) files + token_count (slice_get tokens slot)
 
--- how many hold the slot: between two lines nobody else does
+-- how many open files and tokens hold the slot; between two lines nobody else holds it
 abbrev pub holder_count : Plain → ℕ → ℕ
 holder_count b slot = count_on b.files b.tokens slot
 
--- one hold more may be taken
+-- whether one more hold of the slot may be taken
 abbrev pub has_room : Plain → ℕ → Bool
 has_room b slot = nat_lt (holder_count b slot) b.limit
 
 -- ---- slots
 
--- the next key of the lowest slot that has no linked node, no holder, and a generation left; the root's slot
--- is left out
+-- the next key of the lowest slot that has no linked node and no holder, and has a generation left; the
+-- root's slot is left out
 abbrev pub IsFreeKey : Plain → Option Key → Type 0
 IsFreeKey b next = IsFreeKeyOf b.log.tree b.last (holder_count b) next
 
 -- ---- changes
 
--- these commands were accepted, one after the other
+-- the board after these commands were accepted, one after another
 abbrev pub with_commands : Plain → List Command → Plain
 with_commands b cs = record b { log = logged b.log cs }
 
--- these commands are stored in place of all others, and the tree is as it was
+-- the board with these stored commands in place of all others; the tree is as it was
 abbrev pub with_list : Plain → List Command → Plain
 with_list b cs = record b { log = listed b.log cs }
 

@@ -1,5 +1,4 @@
--- What the commands on files do: by the open file that a letter names, and by the texts and event numbers of
--- the slots.
+-- What the commands on files do. A letter names an open file; texts and event numbers are those of slots.
 use Rattle.std.specs.Prelude.{◌≡◌, ◌⊎◌, ℕ, ◌+◌, ◌-◌, ◌^◌, not, List, [], ◌∷◌, length, take, nat_lt, slice_set, slice_index, slice_index_or, is_some, Option, Some, None, Result, Ok, Err}
 use Rattle.std.specs.Option.{ok_or}
 use Rattle.kf_core.specs.declared.key.Key.{Key}
@@ -22,12 +21,12 @@ use Rattle.kf_plain.specs.Settled.{ok_unless}
 
 -- ---- open
 
--- why a file's command is refused, by the record that was found: there is none, or its kind
+-- why a command on a file is refused: no record was found; or what is wrong with the kind of the record
 abbrev pub record_cause : (ℕ → Option Refusal) → Option Record → Option Refusal
 record_cause cause None = Some NoEntry
 record_cause cause (Some r) = kind_cause cause r.node
 
--- why the open of a node is refused; the hold is taken before the node's kind is looked at
+-- why a node is not opened; the hold is taken before the node's kind is looked at
 abbrev pub open_cause_at : TreeLog → (ℕ → ℕ) → ℕ → Want → Key → Option Refusal
 open_cause_at log holds limit want key = first_cause (
     linked_cause log.tree key
@@ -40,12 +39,12 @@ abbrev pub opened_node : TreeLog → (ℕ → ℕ) → ℕ → List ℕ → Want
 opened_node log holds limit path want =
     and_then (seen log.tree log.root path) (λ key. ok_unless (open_cause_at log holds limit want key) key)
 
--- the node that is opened under a letter, which is looked at first
+-- the node that is opened under a letter; the letter is looked at first
 abbrev pub opened_key : Plain → ℕ → List ℕ → Want → Result Key Refusal
 opened_key b file path want = and_then (ok_unless (unless (not (is_some (file_at b file))) Busy) file)
     (λ _. opened_node b.log (holder_count b) b.limit path want)
 
--- the node that an open takes its hold of, once the letter is free
+-- the node that an open takes its hold of, if the letter is free
 abbrev pub open_held : Plain → ℕ → List ℕ → Result Key Refusal
 open_held b file path = and_then (ok_unless (unless (not (is_some (file_at b file))) Busy) file)
     (λ _. seen b.log.tree b.log.root path)
@@ -58,7 +57,7 @@ new_open key want = record { key = key; kept = new_file want }
 abbrev pub known_file : Plain → ℕ → Result OpenPlainFile Refusal
 known_file b file = ok_or (file_at b file) Invalid
 
--- the open file whose bytes are stored: it was opened for writing, and its node is live
+-- the open file of a letter, if it was opened for writing and its node is live, so that bytes can be stored
 abbrev pub stored_file : Plain → ℕ → Result OpenPlainFile Refusal
 stored_file b file = and_then (known_file b file) (λ opened. ok_unless (first_cause (
     unless opened.kept.want.write Access
@@ -67,29 +66,29 @@ stored_file b file = and_then (known_file b file) (λ opened. ok_unless (first_c
 
 -- ---- notify
 
--- the file that is notified; its slot's event number may be at its last
+-- the file at a path, if it may be notified; it may not if its slot's event number is 2^64 - 1
 abbrev pub notified_key : Plain → List ℕ → Result Key Refusal
 notified_key b path = and_then (walked b.log.tree b.log.root path) (λ key.
     ok_unless (record_cause (λ mode. unless (nat_lt (slice_index b.events key.slot) (2 ^ 64 - 1)) NoSpace)
     (record_at b.log.tree key)) key)
 
--- the board after a notify of a slot: its event number is one more
+-- the board after a notify of a slot: its event number is one higher
 abbrev pub with_event : Plain → ℕ → Plain
 with_event b slot = record b { events = slice_set b.events slot (slice_index b.events slot + 1) }
 
 -- ---- visits
 
--- what a visit to the key's node does, by whether the node is live
+-- what a visit to the key's node does, which depends on whether the node is live
 abbrev pub VisitsNode : {Done : Type 0} → Plain → Key → Type 0 → (Done → Type 0) → Visit Done → Type 0
 VisitsNode b key idle does visit = VisitsLive (live_in b.log.tree key) idle does visit
 
--- a show fills the page with the first 4,096 bytes of the slot's text, and the slot's event number was taken
--- for it
+-- a show fills the page with the first 4,096 bytes of the slot's text, and the number that was taken for it
+-- is the slot's event number
 abbrev pub ShowsText : Plain → ℕ → ShowResult → Type 0
 ShowsText b slot shown = (shown.number ≡ slice_index b.events slot)
     × (shown.filled ≡ Ok (take 4096 (slice_index_or b.texts slot [])))
 
--- a store puts these bytes in place of the slot's whole text, and returns their number
+-- a store replaces the slot's whole text with these bytes, and returns their number
 abbrev pub StoresText : Plain → ℕ → List ℕ → Result ℕ Fault → Plain → Type 0
 StoresText b slot bytes answer now = (answer ≡ Ok (length bytes)) × (now ≡ with_text b slot bytes)
 

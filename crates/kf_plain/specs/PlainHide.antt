@@ -1,4 +1,4 @@
--- What hiding a file does, and showing it again.
+-- What hiding a file does, and what showing it again does.
 use Rattle.std.specs.Prelude.{ℕ, Bool, false, nat_lt, List, [], ◌∷◌, Option, Some, None, Result}
 use Rattle.std.specs.Option.{option_map_or}
 use Rattle.kf_core.specs.declared.key.Key.{Key}
@@ -15,7 +15,7 @@ use Rattle.kf_plain.specs.Settled.{ok_unless}
 
 -- ---- hide
 
--- why a node is not hidden; the hold is taken before it is looked at
+-- why a node is not hidden; the hold is taken before the node is looked at
 abbrev pub hidden_cause : TreeLog → (ℕ → ℕ) → ℕ → Key → Option Refusal
 hidden_cause log holds limit key = first_cause (
     linked_cause log.tree key
@@ -38,7 +38,7 @@ with_hidden b key = with_token (with_commands b (Hide key ∷ [])) key.slot (Som
 
 -- ---- show
 
--- the board has a token for this very key
+-- whether the board has a token for this very key
 abbrev pub has_token : Plain → Key → Bool
 has_token b key = option_map_or (λ token. same_key token key) (token_at b key.slot) false
 

@@ -51,13 +51,13 @@ abbrev pub IsShort : Option (List ℕ) → Type 0
 IsShort None = Unit {0}
 IsShort (Some text) = length text ≤ 4095
 
--- the file's caller waits on its key, whose slot is that of the file's text
+-- the file's caller waits on the file's key, the file's tag is the slot of this key, and its text is short
 pub record IsHeldFile (callers : List Caller) (f : BoardFile) : Type 0 where
   pub waits : Waits callers f.file.hold f.key
   pub tag : f.file.tag ≡ f.key.slot
   pub short : IsShort f.file.state.text
 
--- the token of a slot: its caller hides its key, which is in this slot
+-- the caller of the token hides the token's key, and this key is in the slot
 pub record IsHeldToken (callers : List Caller) (slot : ℕ) (t : BoardToken) : Type 0 where
   pub hides : slice_get callers t.hold ≡ Some (hidden_on t.key)
   pub in_slot : t.key.slot ≡ slot
@@ -68,13 +68,13 @@ IsTaggedNode slot Dir = Unit {0}
 IsTaggedNode slot (File mode tag) = tag ≡ slot
 IsTaggedNode slot (Link target) = Unit {0}
 
--- the record, if there is one, is tagged with its slot
+-- the record, if there is one and it is that of a file, is tagged with its slot
 abbrev pub IsTagged : Option Record → Type 0
 IsTagged None = Unit {0}
 IsTagged (Some r) = IsTaggedNode r.key.slot r.node
 
--- what holds of the board's fields at all times: a place in each list for each slot or letter, and callers
--- that are those of open files and tokens
+-- what holds of the board's fields at all times: each list has a place for each slot or letter, and the
+-- callers that hold anything are those of open files and tokens
 pub record IsWholeBoard (n : Nodes) (events : List ℕ) (texts : List (List ℕ))
     (files : List (Option BoardFile)) (tokens : List (Option BoardToken)) : Type 0 where
   pub few : length n.log.tree ≤ most_slots
@@ -83,7 +83,8 @@ pub record IsWholeBoard (n : Nodes) (events : List ℕ) (texts : List (List ℕ)
   pub a_file_each : length files ≡ 26
   pub a_token_each : length tokens ≡ length n.log.tree
   pub tagged : (slot : ℕ) (o : Option Record) → slice_get n.log.tree slot ≡ Some o → IsTagged o
-  -- who holds a slot is the caller of an open file on it or of its token, and no two files have one caller
+  -- whoever holds a slot is the caller of an open file on it or of its token, and no two files have the same
+  -- caller
   pub idle : AllIdle n.callers
   pub held : (file : ℕ) (f : BoardFile) → slice_get files file ≡ Some (Some f) → IsHeldFile n.callers f
   pub apart : (one other : ℕ) (f g : BoardFile) → slice_get files one ≡ Some (Some f)

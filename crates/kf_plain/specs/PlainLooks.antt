@@ -1,4 +1,4 @@
--- What the replies are to commands that only look.
+-- The replies to commands that only look.
 use Rattle.std.specs.Prelude.{ℕ, List, Result}
 use Rattle.std.specs.Option.{option_map, ok_or}
 use Rattle.kf_core.specs.Limits.{most_slots}
@@ -23,7 +23,7 @@ abbrev pub listed_dir : Plain → List ℕ → Result Key Refusal
 listed_dir b path =
     and_then (seen b.log.tree b.log.root path) (λ dir. ok_unless (list_cause b.log.tree dir) dir)
 
--- as many names as a list has at most: more than any directory has children
+-- the most names that are listed: more than any directory has children
 abbrev pub name_limit : ℕ
 name_limit = most_slots
 

@@ -1,4 +1,4 @@
--- The plain board's reply to each request, and what the request makes of the board.
+-- The plain board's reply to each request, and what the request does to the board.
 use Rattle.std.specs.Prelude.{◌≡◌, ℕ, Bool, true, false, List, [], ◌∷◌, length, decimal, slice_index, Option, Some, None, Result, IsTrue}
 use Rattle.kf_core.specs.declared.key.Key.{Key}
 use Rattle.kf_core.specs.declared.key.Node.TheVariants.{Dir, Link}
@@ -24,7 +24,7 @@ use Rattle.kf_plain.specs.PlainHide.{hide_held, hidden_key, with_hidden, shown_k
 use Rattle.kf_plain.specs.PlainFiles.{open_held, opened_key, new_open, known_file, stored_file, notified_key, with_event, VisitsNode, ShowsText, StoresText}
 use Rattle.kf_replies.specs.ReplyParts.{told_text, bytes_text, count_text}
 
--- what a request does if memory is there
+-- what a request does if there is enough memory
 abbrev pub Outcome : Plain → RequestWords → List ℕ → Plain → Type 0
 Outcome b (make_directory path is_live) reply now =
     (next : Option Key) × IsFreeKey b next × Settled (new_spot b.log path Dir next) (λ spot.
@@ -85,8 +85,8 @@ Outcome b (plug name text) reply now = (reply ≡ refusal_text NoDevice) × (now
 Outcome b (unplug name) reply now = (reply ≡ refusal_text NoDevice) × (now ≡ b)
 Outcome b wait reply now = (reply ≡ done_text) × (now ≡ b)
 
--- memory may be wanting for the request, and nothing else refuses it: of an open, a hide and a removal,
--- nothing up to the hold that they take
+-- memory may be lacking for the request, and nothing else refuses it; for an open, a hide and a removal,
+-- nothing refuses it up to the holds that it takes
 abbrev pub MayStarve : Plain → RequestWords → Type 0
 MayStarve b (make_directory path is_live) =
     (next : Option Key) × IsFreeKey b next × Leads (new_spot b.log path Dir next)
@@ -105,7 +105,8 @@ MayStarve b (hide path) = Leads (hide_held b.log path)
 MayStarve b compact = Unit {0}
 MayStarve b _ = ⊥
 
--- the reply to a request; one that lacked memory says so, and changes nothing
+-- the reply to a request, and what the request does; if the request lacked memory, the reply says so, and
+-- nothing changes
 abbrev pub PlainStep : Plain → RequestWords → Bool → List ℕ → Plain → Type 0
 PlainStep b request true reply now = MayStarve b request × (reply ≡ starved_text request) × (now ≡ b)
 PlainStep b request false reply now = Outcome b request reply now

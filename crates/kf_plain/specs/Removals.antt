@@ -1,4 +1,4 @@
--- What the steps of a removal make of the tree, and of the world of callers.
+-- What the steps of a removal do to the tree, and to the world of callers.
 use Rattle.std.specs.Prelude.{◌≡◌, ◌⊎◌, ℕ, ◌<◌, ◌≤◌, true, false, List, take, length, slice_set, slice_index_or, Contains, Option, Some, None, IsTrue, if◌then◌else◌}
 use Rattle.kf_core.specs.declared.key.Key.{Key}
 use Rattle.kf_core.specs.declared.slot.NodeFlags.{NodeFlags}
@@ -14,7 +14,7 @@ use Rattle.kf_core.specs.Tree.{Tree, IsIn}
 use Rattle.kf_tree.specs.SlotMarks.{contains_key}
 use Rattle.kf_plain.specs.Nodes.{spent_on}
 
--- a caller that holds the key, and did nothing else yet
+-- a caller that holds the key, and has done nothing else yet
 abbrev pub still_on : Key → Caller
 still_on key = record { key = key; phase = Still }
 
@@ -26,7 +26,8 @@ released c = record { key = c.key; phase = Spent }
 abbrev pub with_callers : BoundedWorld → List Caller → BoundedWorld
 with_callers w callers = bounded (record { slots = w.world.slots; callers = callers }) w.limit
 
--- holds of these nodes are refused: one's slot has as many as there may be; or there was no memory
+-- holds of these nodes are refused: the slot of one of them already has the greatest number of holds; or
+-- there was no memory
 abbrev pub PinsRefused : BoundedWorld → List Key → Refusal → Type 0
 PinsRefused w keys refusal =
     ((refusal ≡ TooManyHolds)
@@ -41,16 +42,16 @@ IsMarkedDoomed found = (m : NodeFlags) × (found ≡ Some m) × (m.doomed ≡ tr
 abbrev pub IsMarkedUndoomed : Option NodeFlags → Type 0
 IsMarkedUndoomed found = (m : NodeFlags) × (found ≡ Some m) × (m.doomed ≡ false)
 
--- each node stands after its children
+-- each node comes after its children
 abbrev pub AreChildrenFirst : Tree → List Key → Type 0
 AreChildrenFirst t keys = (i : ℕ) (d : Key) (r : Record) → i < length keys → IsIn t r
     → r.parent ≡ Some (slice_index_or keys i d) → IsTrue (contains_key (take i keys) r.key)
 
--- these nodes are not linked any more, and all others have the marks that they had
+-- these nodes are no longer linked, and all others have the marks that they had
 abbrev pub Cleared : List Key → BareWorld → BareWorld → Type 0
 Cleared keys old new = (key : Key) → marks new key ≡ if contains_key keys key then None else marks old key
 
--- the node is not linked any more, and the caller has released it
+-- the node is no longer linked, and the caller has released it
 abbrev pub taken_out : BoundedWorld → ℕ → Key → BoundedWorld
 taken_out w id key =
     with_callers (bounded (with_marks w.world key None) w.limit) (slice_set w.world.callers id (spent_on key))

@@ -5,12 +5,13 @@ use Rattle.kf_core.specs.declared.refusal.Refusal.TheVariants.{NoMemory}
 use Rattle.kf_script.specs.ReplyText.{refusal_text}
 use Rattle.kf_plain.specs.Plain.{Plain}
 
--- this, if there is no cause against it
+-- this value, if there is no cause against it; otherwise the cause
 abbrev pub ok_unless : {X : Type 0} → Option Refusal → X → Result X Refusal
 ok_unless None x = Ok x
 ok_unless (Some refusal) x = Err refusal
 
--- what is done with what the request names; if that is refused, so is the request, and nothing changes
+-- what is done with what the request leads to; if that is refused, the request is refused too, and nothing
+-- changes
 abbrev pub Settled : {X : Type 0} → Result X Refusal → (X → Type 0) → Plain → List ℕ → Plain → Type 0
 Settled (Ok x) does before reply now = does x
 Settled (Err refusal) does before reply now = (reply ≡ refusal_text refusal) × (now ≡ before)
@@ -19,12 +20,12 @@ Settled (Err refusal) does before reply now = (reply ≡ refusal_text refusal) �
 abbrev pub Leads : {X : Type 0} → Result X Refusal → Type 0
 Leads {X} leads = (x : X) × (leads ≡ Ok x)
 
--- why a call was refused: what it leads to is refused with this; or memory was wanting, and nothing refuses
--- it as far as `held`
+-- why a call was refused: what it leads to is refused with this; or memory was lacking, and nothing refuses
+-- the call as far as `held`
 abbrev pub IsWhyFrom : {X Y : Type 0} → Result Y Refusal → Result X Refusal → Refusal → Type 0
 IsWhyFrom held leads refusal = (leads ≡ Err refusal) ⊎ ((refusal ≡ NoMemory) × Leads held)
 
--- the same, where nothing else refuses it at all
+-- the same; but if memory was lacking, nothing else refuses the call at all
 abbrev pub IsWhy : {X : Type 0} → Result X Refusal → Refusal → Type 0
 IsWhy leads refusal = IsWhyFrom leads leads refusal
 
@@ -33,6 +34,6 @@ abbrev pub IsRefusedFrom : {X Y : Type 0} → Result Y Refusal → Result X Refu
     → Type 0
 IsRefusedFrom held leads before refusal now = IsWhyFrom held leads refusal × (now ≡ before)
 
--- the board is as before, and this is the refusal to which the look leads
+-- the same; but if memory was lacking, nothing else refuses the call at all
 abbrev pub IsRefusedBy : {X : Type 0} → Result X Refusal → Plain → Refusal → Plain → Type 0
 IsRefusedBy leads before refusal now = IsRefusedFrom leads leads before refusal now

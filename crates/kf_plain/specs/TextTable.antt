@@ -6,8 +6,8 @@ use Rattle.kf_pages.specs.declared.ops.Fault.{Fault}
 abbrev pub ShowsOf : List (List ℕ) → ℕ → Result (List ℕ) Fault → List (List ℕ) → Type 0
 ShowsOf texts slot filled texts' = (filled ≡ Ok (take 4096 (slice_index_or texts slot []))) × (texts' ≡ texts)
 
--- a store puts the bytes in place of the slot's whole text; if there is no memory for them it faults, and
--- the text stays
+-- a store replaces the slot's whole text with the bytes, and returns their number; or it returns the fault
+-- for lack of memory, and the texts stay as they were
 abbrev pub StoresIn : List (List ℕ) → ℕ → List ℕ → Result ℕ Fault → List (List ℕ) → Type 0
 StoresIn texts slot bytes answer texts' =
     ((answer ≡ Ok (length bytes)) × (texts' ≡ slice_set texts slot bytes))

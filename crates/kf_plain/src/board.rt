@@ -21,10 +21,11 @@ mod removing;
 /// How many files may be open: one for each letter.
 const FILES: usize = 26;
 
-/// The board of one caller: a tree, the open files on its nodes by letter, and by slot the text of its
+/// The board of one caller: a tree, the open files on its nodes by letter, and for each slot the text of its
 /// last file, its event number, and the token of its hidden file.
 ///
-/// Contracts see no callers: between two lines whoever holds a slot is an open file on it, or its token.
+/// Contracts see no callers: between two lines, each hold of a slot is that of an open file on it, or of its
+/// token.
 #[derive(Drop)]
 pub struct PlainBoard {
     nodes: Nodes,
@@ -46,7 +47,7 @@ impl Model for PlainBoard {
     ghost invariant = { λ b. IsWholeBoard b.nodes b.events b.texts b.files.items b.tokens };
 }
 
-/// No file under any of the 26 letters.
+/// No open file under any of the 26 letters.
 fn no_files(alloc: Global) -> Result<Vec<Option<BoardFile>>, Refusal>
     ensures none { IfOk result (λ files. files.items ≡ replicate 26 None) }
     ensures refused { IfErr result (λ refusal. refusal ≡ NoMemory) }
@@ -60,7 +61,7 @@ fn no_files(alloc: Global) -> Result<Vec<Option<BoardFile>>, Refusal>
 }
 
 impl PlainBoard {
-    /// A board with only the root. `NoMemory` if it could not be had.
+    /// A board with only the root. `NoMemory` if there is no memory for it.
     pub fn new(alloc: Global, limits: Limits) -> Result<PlainBoard, Refusal>
         ensures made { IfOk result (λ board. board ≡ new_board limits.slots limits.holds 0) }
         ensures refused { IfErr result (λ refusal. refusal ≡ NoMemory) }
@@ -68,8 +69,8 @@ impl PlainBoard {
         PlainBoard::new_at(alloc, limits, 0)
     }
 
-    /// A board with only the root, whose slots have had `start` generations. `NoMemory` if it could not
-    /// be had.
+    /// A board with only the root. Each slot has had `start` generations before. `NoMemory` if there is no
+    /// memory for it.
     ///
     /// Condition: `start` is at most 2^32 - 2.
     pub fn new_at(alloc: Global, limits: Limits, start: u32) -> Result<PlainBoard, Refusal>

@@ -8,8 +8,8 @@ use kf_pages::EventNumbers;
 use std::alloc::Global;
 use std::marker::Model;
 
-/// By slot, its event number (`kernfs_open_node.event`). It belongs to the slot, not to a node, and never
-/// goes back.
+/// The event number of each slot (`kernfs_open_node.event`). It belongs to the slot, not to a node, and never
+/// decreases.
 #[derive(Drop)]
 pub struct EventTable {
     numbers: SlotList<u64>,
@@ -22,7 +22,7 @@ impl Model for EventTable {
 }
 
 impl EventTable {
-    /// The numbers of this many slots, each 1. `NoMemory` if they could not be had.
+    /// The event numbers of this many slots, each 1. `NoMemory` if there is no memory for them.
     pub fn new(alloc: Global, slots: u32) -> Result<EventTable, Refusal>
         ensures numbers { IfOk result (λ table. table ≡ replicate slots 1) }
         ensures refused { IfErr result (λ refusal. refusal ≡ NoMemory) }
@@ -32,7 +32,7 @@ impl EventTable {
         })
     }
 
-    /// The slot's number now. 0 if there is no such slot.
+    /// The slot's event number now, or 0 if there is no such slot.
     pub fn at(&self, slot: u32) -> u64
         ensures number { result ≡ slice_index self.now slot }
     {
@@ -63,7 +63,8 @@ impl EventTable {
     }
 }
 
-/// The event number of one slot, as a file takes it. While it is lent, none is raised.
+/// The event number of one slot, as an open file reads it. It borrows the table, so no number is raised
+/// meanwhile.
 #[derive(Drop)]
 pub struct SlotEvents<'a> {
     pub table: &'a EventTable,

@@ -1,4 +1,4 @@
-//! The tree beside the callers of its nodes: each change of the one is made in the other too.
+//! The tree and the callers of its nodes, which are changed together.
 
 ghost use Rattle.std.specs.Prelude.{◌≡◌, ◌≤◌, ◌<◌, ◌-◌, ◌+◌, ◌^◌, [], ◌∷◌, ◌++◌, length, slice_set, IfOk, IfErr};
 ghost use Rattle.kf_core.specs.declared.key.Key.{Key};
@@ -25,14 +25,14 @@ mod visits;
 pub use hiding::BoardToken;
 pub use visits::BoardFile;
 
-/// A tree with its stored commands, and the callers of its nodes. Contracts see the log, each slot's
-/// last generation, the limit of holds, and the callers. Both name the same linked, activated,
-/// doomed and hidden keys.
+/// A tree with its stored commands, and the callers of its nodes. Contracts see the log, each slot's last
+/// generation, the limit of holds, and the callers. The tree and the callers' world have the same linked,
+/// activated, doomed and hidden keys.
 #[derive(Drop)]
 pub struct Nodes {
     state: State,
     world: World,
-    // The pages of files that were closed, for the next ones.
+    // The pages of closed files, which the next files get.
     pages: Vec<Box<Page>>,
 }
 
@@ -48,7 +48,8 @@ impl Model for Nodes {
 }
 
 impl Nodes {
-    /// Only the root, live, and no caller. Each slot's last generation is `start`, and the root's the next.
+    /// A tree of only the root, which is live, and no callers. Each slot has had `start` generations before.
+    /// The root has the next generation of its slot.
     pub fn new_at(alloc: Global, limits: Limits, start: u32) -> Result<Nodes, Refusal>
         requires start { start ≤ 2 ^ 32 - 2 }
         ensures made { IfOk result (λ nodes. nodes ≡ new_nodes limits.slots limits.holds start) }
@@ -74,15 +75,15 @@ impl Nodes {
         &self.state
     }
 
-    /// The next key of the lowest free slot, the root's left out.
+    /// The next key of the lowest free slot except the root's, or None if no slot is free.
     pub fn next_key(&self) -> Option<Key>
         ensures next { IsFreeKeyOf self.now.log.tree self.now.last (hold_count self.now.callers) result }
     {
         self.world.free_key()
     }
 
-    /// A new caller, which holds a linked node. Returns its number.
-    /// `NoEntry` (not linked), `TooManyHolds`, `NoMemory`; after a refusal nothing is changed.
+    /// Makes a new caller, which holds a linked node, and returns its number.
+    /// Refused with `TooManyHolds`, then with `NoMemory`; after a refusal nothing is changed.
     pub fn pin(&mut self, key: Key) -> Result<usize, Refusal>
         requires linked { is_linked self.old.log.tree key ≡ true }
         ensures number { IfOk result (λ id. id ≡ length self.old.callers) }
@@ -98,7 +99,7 @@ impl Nodes {
         self.world.pin(key)
     }
 
-    /// Gives the hold of a waiting caller back.
+    /// Releases the hold of a waiting caller.
     pub fn release(&mut self, id: usize, key: Key)
         requires waits { Waits self.old.callers id key }
         ensures spent { self.new
@@ -107,7 +108,7 @@ impl Nodes {
                   (record { key = key; phase = Spent });
             } }
     {
-        let _ = key; // the contract alone names it
+        let _ = key; // only the contract names it
         self.world.release(id);
     }
 }

@@ -10,7 +10,7 @@ use kf_pages::{Fault, Ops, Page};
 use std::alloc::{AllocError, Global};
 use std::marker::Model;
 
-/// By slot, the text of its last file. A file's tag is the number of its slot.
+/// For each slot, the text of its last file. A file's tag is the number of its slot.
 #[derive(Drop)]
 pub struct TextTable {
     alloc: Global,
@@ -46,8 +46,8 @@ fn fill(page: &mut Page, text: &[u8])
     }
 }
 
-/// Puts bytes in place of a text: into its own memory if they fit, else into new. After a refusal the
-/// text is as it was.
+/// Replaces a text with bytes, in the text's own memory if they fit, otherwise in new memory. After a refusal
+/// the text is as it was.
 fn replace(alloc: Global, text: &mut Vec<u8>, bytes: &[u8]) -> Result<(), AllocError>
     ensures replaced { OnOk result (text.new.items ≡ bytes.now) }
     ensures unchanged { OnErr result (text.new.items ≡ text.old.items) }
@@ -61,7 +61,7 @@ fn replace(alloc: Global, text: &mut Vec<u8>, bytes: &[u8]) -> Result<(), AllocE
     Ok(())
 }
 
-/// The text of a slot, taken out of its place.
+/// Takes the text of a slot out of its place. It is empty if there is none.
 fn text_in(texts: &mut SlotMap<Vec<u8>>, alloc: Global, slot: usize) -> Vec<u8>
     ensures text { result.items ≡ option_map_or (λ bytes. bytes.items)
         (option_and_then (λ text. text) (slice_get texts.old slot)) [] }
@@ -83,7 +83,7 @@ impl TextTable {
         Ok(TextTable { alloc, texts })
     }
 
-    /// A copy of the bytes, taken before anything is changed. `NoMemory` if it could not be had.
+    /// A copy of the bytes, made before anything is changed. `NoMemory` if there is no memory for it.
     pub fn copy(&self, bytes: &[u8]) -> Result<Vec<u8>, Refusal>
         ensures same { IfOk result (λ text. text.items ≡ bytes.now) }
         ensures refused { IfErr result (λ refusal. refusal ≡ NoMemory) }
@@ -91,7 +91,7 @@ impl TextTable {
         bytes.to_vec(self.alloc).map_err(|_| Refusal::NoMemory)
     }
 
-    /// The text of a slot. Empty if there is none, and past the last slot.
+    /// The text of a slot. It is empty if there is none, or if there is no such slot.
     fn at(&self, slot: usize) -> &[u8]
         ensures text { result.now ≡ slice_index_or self.now slot [] }
     {
@@ -101,7 +101,7 @@ impl TextTable {
         }
     }
 
-    /// Puts a text in place of the slot's.
+    /// Replaces the slot's text with this one.
     pub fn put(&mut self, slot: u32, text: Vec<u8>)
         requires slot { slot < length self.old }
         ensures text { self.new ≡ slice_set self.old slot text.items }
@@ -109,7 +109,7 @@ impl TextTable {
         self.texts.put(slot as usize, text);
     }
 
-    /// Puts a copy of the bytes in place of the slot's text. After a refusal that is as it was.
+    /// Replaces the slot's text with a copy of the bytes. After a refusal the text is as it was.
     fn replace(&mut self, slot: usize, bytes: &[u8]) -> Result<(), AllocError>
         requires slot { slot < length self.old }
         ensures replaced { OnOk result (self.new ≡ slice_set self.old slot bytes.now) }

@@ -1,4 +1,4 @@
--- The last receipt of a removal, and what it says of a value that came back.
+-- What the last receipt of a removal says about a value that is returned.
 use Rattle.std.proofs.Common.{◌≡◌, ◌∙◌, true, false, cond, refl, List, [], ◌∷◌, ◌++◌, length, sym, ap, subst}
 use Rattle.std.specs.Prelude.{ℕ, not, Ok}
 use Rattle.std.proofs.lemmas.List.{append-nil, append_assoc, map-append, same_from_push}
@@ -32,7 +32,7 @@ the_last {Such} handles front last e l = subst Such ((same_from_push l.0 front l
 keys_push : (front : List Handle) (last : Handle) → keys_of (front ++ last ∷ []) ≡ keys_of front ++ last.key ∷ []
 keys_push front last = map-append (λ (h : Handle). h.key) front (last ∷ [])
 
--- a removal of a key has a receipt of it last
+-- if the last hold of a removal is of this key, so is its last receipt
 pub last_key : (removing receipts front : List Handle) (last : Handle) (key : Key) → keys_of receipts ≡ keys_of removing → Last (λ (h : Handle). h.key ≡ key) removing → receipts ≡ front ++ last ∷ [] → last.key ≡ key
 last_key removing receipts front last key same l e =
     (same_from_push (keys_of front) (keys_of l.0) last.key l.1.key
@@ -42,7 +42,7 @@ last_key removing receipts front last key same l e =
 pub keys_back : (old : Locked) (removing ended receipts : List Handle) → WasEnded old removing ended → keys_of receipts ≡ keys_of ended → keys_of receipts ≡ keys_of removing
 keys_back old removing ended receipts e same = same ∙ keys_ended old removing ended e
 
--- what the last receipt saw, if its doom was added last before the unlock
+-- what the last receipt saw, if only the doom of its node was noted before the unlinks and the unlock
 pub saw_back : (mid old : Locked) (key : Key) (removing ended receipts front : List Handle) (last : Handle) → Adds mid old (Did (Doom key)) → Last (λ (h : Handle). h.key ≡ key) removing
     → WasEnded old removing ended → AllEnded ended receipts → owners_of receipts ≡ owners_of ended → receipts ≡ front ++ last ∷ [] → last.key ≡ key → WasRemovedAfter (history mid) last
 saw_back mid old key removing ended receipts front last noted l e finished owners is same =
@@ -88,7 +88,7 @@ was_swapped table old new path name key receipt whole taken named plain is e sam
       (saw e.0 e.2);
 }
 
--- a note that came next is that of the node
+-- if the note that came next is the creation of the node, the node was published
 pub was_published : (table : TableId) (old new : Locked) (node : Node) (path name : List ℕ) (key : Key) (by : Handle) → IsWhole table old → IsTaken (history old) → name_in path ≡ Ok name
     → Adds old new (stands node old.state.root key name) → history_of by.seen ≡ history new → WasPublished node path key by
 was_published table old new node path name key by whole taken is added known = record {
@@ -102,7 +102,7 @@ was_published table old new node path name key by whole taken is added known = r
   known = known ∙ added;
 }
 
--- under the lock, nothing was noted, and then the node was moved to another name in the root
+-- under the lock, nothing was noted before the node was moved to another name in the root
 pub moved_away : (old mid new : Locked) (path away : List ℕ) (key : Key) → seen old.state.tree old.state.root path ≡ Ok key → IsPlain old.state.tree key → IsLeaving away → mid.state ≡ old.state → history mid ≡ history old
     → (is_there_already mid.state.tree key mid.state.root away ≡ true → new.state ≡ mid.state)
     → (is_there_already mid.state.tree key mid.state.root away ≡ false → IsAccepted mid.state new.state (move_cause mid key mid.state.root away) (Rename key mid.state.root away))
@@ -130,7 +130,7 @@ moved_away old mid new path away key named plain leaving same known stays accept
       noted = subst (λ (s : TreeLog). history new ≡ history old ++ moves_away s.tree s.root key away) same (subst (λ (l : List Note). history new ≡ l ++ moves_away mid.state.tree mid.state.root key away) known h);
     }
 
--- and then a node was created under the name, and the former was doomed
+-- the node was moved away, then a node was created under the name, and then the former node was doomed
 pub exchanged : (old away stood new : Locked) (path leaving name : List ℕ) (key made : Key) → WasMovedAway old away path key leaving → Adds away stood (stands value_node away.state.root made name) → Adds stood new (Did (Doom key))
     → Exchanged old new key name
 exchanged old away stood new path leaving name key made m a d = (

@@ -26,7 +26,8 @@ use Rattle.kf_registry.specs.Names.{name_in}
 use Rattle.kf_registry.specs.Receipts.{IsHot, IsPlain, WasMovedAway, moved_tree, value_node}
 use Rattle.kf_registry.specs.Refusals.{GiveWayCause, StandCause, SwapCause, WasFound}
 
--- what was so of the tree behind the lock was so of the tree of the history, which the hold has seen
+-- what was true of the tree behind the lock was true of the tree that the history gives, and the hold has
+-- seen that history
 pub was_found : (table : TableId) (s : Locked) (by : Handle) (Such : Tree → Key → Type 0) → IsWhole table s → IsTaken (history s) → history_of by.seen ≡ history s → Such s.state.tree s.state.root → WasFound by Such
 was_found table s by Such whole taken known such = record {
   found = history s;
@@ -35,22 +36,22 @@ was_found table s by Such whole taken known such = record {
   such = subst (λ (t : Tree). Such t s.state.root) (tree_told s.state s.claims (history s) whole.told) such;
 }
 
--- the path is one of a registry, and this was why
+-- the path is one of a registry, and this was true of its name
 pub name_refused : (P : List ℕ → Type 0) (path name : List ℕ) (why : Refusal) → name_in path ≡ Ok name → P name → MatchResult (name_in path) P (λ refusal. why ≡ refusal)
 name_refused P path name why e p = subst (λ (r : Result (List ℕ) Refusal). MatchResult r P (λ refusal. why ≡ refusal)) (sym e) p
 
--- the path named this node, of which this was so; or none, for this reason
+-- the path named this node, and this was true of it; or it named none, for this reason
 pub named : (P : Key → Type 0) (found : Result Key Refusal) (key : Key) (why : Refusal) → found ≡ Ok key → P key → MatchResult found P (λ refusal. why ≡ refusal)
 named P found key why e p = subst (λ (r : Result Key Refusal). MatchResult r P (λ refusal. why ≡ refusal)) (sym e) p
 
 pub unnamed : (P : Key → Type 0) (found : Result Key Refusal) (why told : Refusal) → found ≡ Err why → told ≡ why → MatchResult found P (λ refusal. told ≡ refusal)
 unnamed P found why told e same = subst (λ (r : Result Key Refusal). MatchResult r P (λ refusal. told ≡ refusal)) (sym e) same
 
--- what a path names in a tree, it names in the same one
+-- a path names the same node in equal trees
 pub seen_same : (s t : TreeLog) (path : List ℕ) (found : Result Key Refusal) → s ≡ t → found ≡ seen s.tree s.root path → seen t.tree t.root path ≡ found
 seen_same s t path found same h = subst (λ (l : TreeLog). seen l.tree l.root path ≡ found) same (sym h)
 
--- no next key, if nothing else was wrong
+-- if nothing else was wrong, there was no next key
 no_next : (next : Option Key) (why : Refusal) → first_cause (None ∷ unless (is_some next) NoSpace ∷ []) ≡ Some why → why ≡ NoSpace
 no_next None why e = cc
 no_next (Some key) why e = absurd (none-some why e)
@@ -62,7 +63,7 @@ next_cause fault next why e h = go (subst (λ (f : Option Refusal). Refuses (fir
     go (inl c) = inl (no_next next why c)
     go (inr m) = inr m.1
 
--- no node was created
+-- why no node was created
 pub stand_cause : (old new : Locked) (name : List ℕ) (node : Node) (why : Refusal) → CreateRefused old new old.state.root name node why → StandCause name node why old.state.tree old.state.root
 stand_cause old new name node why h = elim h [
   | inl f ↦ inl f.0
@@ -83,7 +84,7 @@ pin_refusal m slot Invalid m' h = absurd h
 pin_refusal m slot NoSpace m' h = absurd h
 pin_refusal m slot NameTooLong m' h = absurd h
 
--- there was no hold of the node
+-- why there was no hold of the node
 pub hold_cause : (old new : Locked) (key : Key) (why : Refusal) → HoldRefused old new key why → HoldCause old.state.tree key why
 hold_cause old new key why h = go (is_linked old.state.tree key) h
   where
@@ -91,7 +92,7 @@ hold_cause old new key why h = go (is_linked old.state.tree key) h
     go true p = pin_refusal old.master.view key.slot why new.master.view p
     go false p = p.0
 
--- what is against a move, in a tree that is the same as before
+-- why a move was refused, in a tree that is the same as before
 pub move_refused : (old mid new : Locked) (key dir : Key) (away : List ℕ) (why : Refusal) → mid.state ≡ old.state → dir ≡ mid.state.root → IsRefused mid.state new.state (move_cause mid key dir away) why
     → Refuses (rename_cause old.state.tree old.state.root key old.state.root away) why
 move_refused old mid new key dir away why same is h =
@@ -102,7 +103,7 @@ move_refused old mid new key dir away why same is h =
 pub not_given : (t : Tree) (root key : Key) (path name : List ℕ) (why : Refusal) → seen t root path ≡ Ok key → IsPlain t key → GiveWayCause t root key name why → SwapCause path name why t root
 not_given t root key path name why e plain cause = named (λ (k : Key). (IsHot t k × (why ≡ Busy)) ⊎ (IsPlain t k × GiveWayCause t root k name why)) (seen t root path) key why e (inr (plain, cause))
 
--- it has moved away, and no other was created
+-- the node has moved away, but no other node was created
 pub not_stood : (old away : Locked) (path leaving name : List ℕ) (key : Key) (why : Refusal) → WasMovedAway old away path key leaving → StandCause name value_node why away.state.tree away.state.root
     → SwapCause path name why old.state.tree old.state.root
 not_stood old away path leaving name key why m h =
@@ -110,7 +111,7 @@ not_stood old away path leaving name key why m h =
     let c : StandCause name value_node why (moved_tree old.state.tree old.state.root key leaving) old.state.root = subst (λ (t : Tree). StandCause name value_node why t old.state.root) m.tree at in
     not_given old.state.tree old.state.root key path name why m.named m.plain (inr (leaving, m.leaving, inr c))
 
--- it is not hot, or it is
+-- the node is not hot, or it is hot
 pub plain_at : (s t : TreeLog) (key : Key) (answer : Bool) → s ≡ t → (IsTrue answer ↔ IsHot s.tree key) → answer ≡ false → IsPlain t.tree key
 plain_at s t key answer same h e = subst (λ (l : TreeLog). IsPlain l.tree key) same (λ (hot : IsHot s.tree key). false≢true (sym e ∙ h.1 hot))
 

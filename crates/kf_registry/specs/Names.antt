@@ -3,13 +3,13 @@ use Rattle.std.specs.Prelude.{ℕ, Bool, false, not, ◌==◌, ◌&&◌, nat_le,
 use Rattle.kf_core.specs.declared.refusal.Refusal.{Refusal}
 use Rattle.kf_core.specs.declared.refusal.Refusal.TheVariants.{Invalid, NameTooLong}
 
--- a slash, and then something that does not begin with a dot
+-- whether the path is a slash, and then at least one byte, of which the first is not a dot
 abbrev pub has_name : List ℕ → Bool
 has_name [] = false
 has_name (slash ∷ []) = false
 has_name (slash ∷ first ∷ others) = (slash == 47) && not (first == 46)
 
--- the name in the root that a path of a registry has
+-- the name in the root to which a path of a registry leads, or why the path is refused
 abbrev pub name_in : List ℕ → Result (List ℕ) Refusal
 name_in path =
     if has_name path

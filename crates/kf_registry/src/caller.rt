@@ -17,11 +17,12 @@ use std::sync::Wait;
 
 impl<N: Naming, T: Published> Registry<N, T> {
     /// Lends the value of a running call's node to `f`. If the node's place does not have a value that was
-    /// published under this path, `f` comes back.
+    /// published under this path, `f` is returned.
     ///
-    /// Conditions: the call is Running, and `f` may be called with each value that suits the path.
+    /// Conditions: the call is Running, and `f` may be called with every value that suits the path.
     ///
-    /// Context: no sleep but that of `f`.
+    /// Context: does not sleep, except in `f` and, if the value is hot, behind a swap that is under way in
+    /// lane 0.
     pub fn lend<A, R: Wait, F: FnOnce(&T) -> A>(
         &self,
         rt: &R,
@@ -44,14 +45,15 @@ impl<N: Naming, T: Published> Registry<N, T> {
     }
 }
 
-/// What a thread calls, publishes and takes values by. Each thread has its own. It learns what the tree's
-/// lock says: so each refusal names what was found in the tree of the one run, when the lock was taken.
+/// A thread's caller, with which it calls, publishes and takes values. Each thread has its own. In contracts,
+/// it has seen the whole history whenever it takes the tree's lock. So each refusal says what was in the tree
+/// of the one run when the lock was taken.
 pub struct ValueCaller<N: Naming> {
     pub(crate) holder: PathHolder<N>,
 }
 
 impl<N: Naming> ValueCaller<N> {
-    /// Takes the lock of the tree, and learns the whole history.
+    /// Takes the tree's lock. The caller has now seen the whole history.
     pub(crate) fn lock<'a, R: Wait>(&mut self, rt: &R, tree: &'a SharedTree<N>) -> Editor<'a, N>
         ensures whole { IsWhole N.table result }
         ensures taken { IsTaken (history result) }
@@ -63,7 +65,7 @@ impl<N: Naming> ValueCaller<N> {
         editor
     }
 
-    /// A running call of the live node that a path names, with no lock of the tree.
+    /// A running call of the live node that a path names, without taking the tree's lock.
     fn try_enter(&mut self, path: &[u8]) -> Option<Call>
         ensures running { IfSome result (λ call. call.phase ≡ phase_of.Running) }
         ensures table { IfSome result (λ call. call.table ≡ N.table) }
@@ -77,7 +79,7 @@ impl<N: Naming> ValueCaller<N> {
         }
     }
 
-    /// A running call of the live node that a path names, as the tree has it under its lock.
+    /// A running call of the live node that a path names, found under the tree's lock.
     ///
     /// Refusals, in order: those of [`kf_tree::State::lookup`]; TooManyHolds, NoMemory; NoDevice if somebody
     /// hides the node.
@@ -101,7 +103,8 @@ impl<N: Naming> ValueCaller<N> {
         }
     }
 
-    /// As `call`, if a look-up without the lock finds the node, and its value is in its place.
+    /// Like `call`, but `f` is returned if a look-up without the lock finds no live node, or if the value is
+    /// not in the node's place.
     fn try_call<T: Published, A, R: Wait, F: FnOnce(&T) -> A>(
         &mut self,
         rt: &R,
@@ -122,18 +125,20 @@ impl<N: Naming> ValueCaller<N> {
         ran
     }
 
-    /// Lends the value under a path to `f`, while a call of its node runs: nobody gets the value back
-    /// before `f` has returned.
+    /// Lends the value under a path to `f`, inside a call of its node: nobody gets the value back before `f`
+    /// has returned.
     ///
-    /// Condition: `f` may be called with each value that suits the path.
+    /// Condition: `f` may be called with every value that suits the path.
     ///
     /// Refusals, in order: those of [`kf_tree::State::lookup`] (NoEntry: nothing is published there);
-    /// TooManyHolds, NoMemory. They are found under the tree's lock, when nobody is in the middle of a
-    /// publication or a swap. NoDevice, or NoEntry of a node, would mean that the node is hidden, or its
-    /// place empty, as no call of this crate leaves one.
+    /// TooManyHolds, NoMemory. They are found under the tree's lock, when no publication and no swap is half
+    /// done. The contract also allows NoDevice (the node is hidden), and NoEntry for a node that was found
+    /// (its place is empty). But no call of this crate leaves a node so.
     ///
-    /// Context: takes the tree's lock if a look-up without it finds no value; its caller must not have it.
-    /// No other sleep but that of `f`, which runs without the lock.
+    /// Context: takes the tree's lock if a look-up without it finds no value; the caller must not hold it. It
+    /// sleeps otherwise only in `f`, which runs without the lock, and, if the value is hot, behind a swap
+    /// that is under way in lane 0. So `f` must not call a hot value again that it was lent: a swap that
+    /// waits for `f` would keep that call waiting.
     pub fn call<T: Published, A, R: Wait, F: FnOnce(&T) -> A>(
         &mut self,
         rt: &R,
@@ -162,7 +167,7 @@ impl<N: Naming> ValueCaller<N> {
     }
 }
 
-/// Gives its hold of the root back.
+/// Releases its hold of the root.
 impl<N: Naming> Drop for ValueCaller<N> {
     fn drop(self) {
         let ValueCaller { holder } = self;

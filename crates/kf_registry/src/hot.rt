@@ -26,7 +26,7 @@ use std::alloc::Global;
 use std::marker::{Model, PhantomData};
 use std::sync::{Arc, Wait};
 
-/// A hot value, as its owner has it. It must be spent, by [`Registry::take_hot`].
+/// The owner's handle on a hot value. It must be passed to [`Registry::take_hot`].
 pub struct Hot<N: Naming, T: Published> {
     keeper: Keeper<()>,
     key: Key,
@@ -59,11 +59,11 @@ struct NewHot<T: Published> {
     shared: Arc<Lanes<T>>,
 }
 
-/// The lanes of a value, twice.
+/// The new lanes of a value, as two `Arc`s of them.
 ///
-/// Condition: there is a lane.
+/// Condition: there is at least one lane.
 ///
-/// Refusal: NoMemory. Then nobody else owns the value.
+/// Refusal: NoMemory. Then no lane is left that owns the value.
 fn new_lanes<T: Published>(
     alloc: Global,
     own: &Arc<HotValue<T>>,
@@ -78,11 +78,11 @@ fn new_lanes<T: Published>(
 }
 
 impl<T: Published> NewHot<T> {
-    /// All that the value needs for calls through this many lanes.
+    /// All that the value needs to be called through this many lanes.
     ///
-    /// Conditions: the value suits the path, and the path fits.
+    /// Conditions: the value suits the path, and the path has at most 256 bytes.
     ///
-    /// Refusals, in order: Invalid (no lane, or more than 65,535), NoMemory. Then the value comes back.
+    /// Refusals, in order: Invalid (no lane, or more than 65,535), NoMemory. Then the value is returned.
     fn new<R: Wait>(
         rt: &R,
         alloc: Global,
@@ -124,7 +124,7 @@ impl<T: Published> NewHot<T> {
         }
     }
 
-    /// The value comes back.
+    /// Returns the value.
     fn into_value<R: Wait>(self, rt: &R) -> T
         ensures { result ≡ (arc_value self.own).value }
     {
@@ -142,7 +142,7 @@ impl<T: Published> NewHot<T> {
 
 /// Opens a gate for the first time.
 ///
-/// Condition: it was never opened.
+/// Condition: the gate was never opened.
 fn first_opening(closed: Closed) -> Keeper<()>
     requires new { closed.plan.number ≡ 0 }
     ensures open { IsOpen closed.seat.gate.lanes result }
@@ -154,9 +154,9 @@ fn first_opening(closed: Closed) -> Keeper<()>
 }
 
 impl<N: Naming, T: Published> Registry<N, T> {
-    /// Opens the gate of a hot value whose node has this key, and fills its place.
+    /// Opens the gate of a hot value whose node has this key, and fills the node's place.
     ///
-    /// Condition: its gate was never opened.
+    /// Condition: the gate was never opened.
     fn heat<R: Wait>(&self, rt: &R, key: Key, new: NewHot<T>) -> Hot<N, T>
         requires closed { new.closed.plan.number ≡ 0 }
         ensures key { result.key ≡ key }
@@ -183,17 +183,19 @@ impl<N: Naming, T: Published> Registry<N, T> {
         }
     }
 
-    /// As [`Registry::publish`], for a value that many threads call at once: each that has a [`HotCaller`]
-    /// calls it through a gate of this many lanes, and callers of different lanes write no word that they
-    /// share. Others may call it as any value. Only its owner takes it back, by [`Registry::take_hot`].
+    /// Like [`Registry::publish`], but the value is one that many threads call at once. A thread that has a
+    /// [`HotCaller`] calls the value through a gate of this many lanes. Callers in different lanes write to
+    /// no word that they share. Other threads may call the value like any other. Only its owner takes it
+    /// back, with [`Registry::take_hot`].
     ///
     /// Condition: the value suits the path.
     ///
-    /// Refusals, in order: Invalid, NameTooLong (the path is not such a path), Invalid (no lane, or more than
-    /// 65,535), NoMemory, Invalid (the name is none), Exists, NoSpace (there are as many values as there may
-    /// be), NoMemory. After a refusal nothing is changed, and the value comes back.
+    /// Refusals, in order: Invalid (the path does not have the form that `publish` asks for), NameTooLong
+    /// (the name has more than 255 bytes), Invalid (no lane, or more than 65,535), NoMemory, Invalid (the
+    /// name is not lawful), Exists, NoSpace (the registry already has the greatest number of values),
+    /// NoMemory. After a refusal nothing is changed, and the value is returned.
     ///
-    /// Context: takes the tree's lock, which its caller must not have.
+    /// Context: takes the tree's lock; the caller must not hold it.
     pub fn publish_hot<R: Wait>(
         &self,
         rt: &R,
@@ -226,15 +228,16 @@ impl<N: Naming, T: Published> Registry<N, T> {
         }
     }
 
-    /// What a thread calls the hot value under a path by, through the lane of this number, modulo the number
-    /// of lanes. Each thread has its caller, and its lane if there are enough.
+    /// A caller with which a thread calls the hot value under a path. It uses the lane of this number, modulo
+    /// the number of lanes. Each thread has its own caller and, if there are enough lanes, its own lane.
     ///
-    /// Refusals, in order: Invalid, NameTooLong (as [`Registry::publish`]); those of
+    /// Refusals, in order: Invalid, NameTooLong (as in [`Registry::publish`]); those of
     /// [`kf_tree::State::lookup`] (NoEntry: nothing is published there, or it is being taken); Invalid (the
-    /// value is not hot); TooManyHolds (the gate has had 2^32 passes) or NoMemory. NoEntry of a node would
-    /// mean that its place is empty, as no call of this crate leaves one.
+    /// value is not hot); TooManyHolds (the gate has had 2^32 - 1 passes) or NoMemory. The contract also
+    /// allows NoEntry for a node that was found. It would mean that the node's place is empty, but no call of
+    /// this crate leaves a place so.
     ///
-    /// Context: takes the tree's lock, which its caller must not have.
+    /// Context: takes the tree's lock; the caller must not hold it.
     pub fn hot_caller<R: Wait>(
         &self,
         rt: &R,
@@ -300,16 +303,16 @@ impl<N: Naming, T: Published> Registry<N, T> {
         }
     }
 
-    /// Takes a hot value away: shuts its gate, waits until nobody is inside, and gives the value back. From
-    /// the moment at which it marks the node and shuts the gate no call begins there, and the path is free
-    /// again when this returns.
+    /// Takes a hot value back: shuts its gate, waits until nobody is inside, and returns the value. Once the
+    /// node is marked and the gate is shut, no call begins there. When this function returns, the path is
+    /// free again.
     ///
     /// Refusals, in order: those of [`kf_tree::State::lookup`], NoEntry (the path names another node);
-    /// TooManyHolds or NoMemory, whichever is met first. Of these only the last two can be met. After a
-    /// refusal the value stands as before, its gate is open, and `hot` comes back.
+    /// TooManyHolds or NoMemory, whichever is met first. Of these, only TooManyHolds and NoMemory can occur.
+    /// After a refusal the value is published as before, its gate is open, and `hot` is returned.
     ///
-    /// Context: sleeps; takes the tree's lock, which its caller must not have. It waits for all who are
-    /// inside, so a function that is inside must not call it.
+    /// Context: sleeps; takes the tree's lock; the caller must not hold it. It waits for all calls that are
+    /// inside, so a closure that runs inside must not call it.
     pub fn take_hot<R: Wait>(
         &self,
         rt: &R,

@@ -1,4 +1,4 @@
-//! Calls of a hot value by one thread: each goes through the value's gate, by a pass.
+//! Calls of a hot value by one thread. Each call goes through the value's gate, with a pass.
 ghost use Rattle.std.specs.Prelude.{◌≡◌, IfErr, IfOk, Some, true};
 ghost use Rattle.std.specs.Fn.{FnOnceReturnsAt, FnOnceTakesAt};
 ghost use Rattle.kf_core.specs.declared.caller.Phase.TheVariants as phase_of;
@@ -12,8 +12,8 @@ use std::marker::Model;
 use std::mem::replace;
 use std::sync::{Arc, Wait};
 
-/// What a thread calls a hot value by: a pass through the value's gate. Threads whose lanes differ write no
-/// word that they share.
+/// A thread's caller of a hot value, with a pass through the value's gate. Threads in different lanes write
+/// to no word that they share.
 #[derive(Drop)]
 pub struct HotCaller<T: Published> {
     lanes: Arc<Lanes<T>>,
@@ -35,10 +35,10 @@ impl<T: Published> Model for HotCaller<T> {
     ghost invariant = { λ c. (pass : PassState) × (c.pass ≡ Some pass) };
 }
 
-/// Lends the value to `f` inside the gate, by the place of a lane. It waits until the value is there, which
-/// it is until nobody is inside.
+/// Lends the value in a lane's place to `f`, inside the gate. It waits until the value is there. The value
+/// stays there as long as somebody is inside.
 ///
-/// Conditions: the call is Running, and `f` may be called with each value that suits the path.
+/// Conditions: the call is Running, and `f` may be called with every value that suits the path.
 fn lend_inside<T: Published, A, R: Wait, F: FnOnce(&T) -> A>(
     rt: &R,
     call: &GateCall,
@@ -63,7 +63,7 @@ fn lend_inside<T: Published, A, R: Wait, F: FnOnce(&T) -> A>(
 }
 
 impl<T: Published> HotCaller<T> {
-    /// The caller by this lane, with this pass. The gate was opened under this number.
+    /// A caller through this lane, with this pass. The gate was opened under this number.
     pub(crate) fn new(
         lanes: Arc<Lanes<T>>,
         lane: u64,
@@ -82,14 +82,15 @@ impl<T: Published> HotCaller<T> {
         }
     }
 
-    /// Lends the value to `f`, while a call runs through its gate: nobody gets the value back before `f` has
-    /// returned. It takes no lock of the tree, and writes no word that callers of other lanes write. If its
-    /// look found that the gate is not open any more, `f` comes back: the value is being taken, or was.
+    /// Lends the value to `f` inside the value's gate: nobody gets the value back before `f` has returned. It
+    /// does not take the tree's lock, and it writes to no word that callers in other lanes write to. If it
+    /// finds that the gate is no longer open, `f` is returned: the value is being taken, or was taken.
     ///
-    /// Condition: `f` may be called with each value that suits the path.
+    /// Condition: `f` may be called with every value that suits the path.
     ///
-    /// Context: no sleep but that of `f`, and of a swap that is under way in its lane. So `f` must not call
-    /// the same value by this lane again: a swap that waits for `f` would keep that call waiting.
+    /// Context: does not sleep, except in `f` and behind a swap that is under way in its lane. So `f` must
+    /// not call the same value through this lane again: a swap that waits for `f` would keep that call
+    /// waiting.
     pub fn call<A, R: Wait, F: FnOnce(&T) -> A>(&mut self, rt: &R, f: F) -> Result<A, F>
         requires callable { (value : T) → T.suits self.old.path value ≡ true →
             FnOnceTakesAt F.FnOnce f value }

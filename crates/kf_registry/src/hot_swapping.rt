@@ -1,4 +1,4 @@
-//! Putting another value in the place of a hot one.
+//! Swapping a hot value for another.
 ghost use Rattle.std.specs.Prelude.{◌≡◌, IfErr, IfOk, OnErr, OnOk, true};
 ghost use Rattle.kf_core.specs.declared.refusal.Refusal.TheVariants as refusal_of;
 
@@ -12,16 +12,16 @@ use std::mem::replace;
 use std::sync::Wait;
 
 impl<N: Naming, T: Published> Registry<N, T> {
-    /// Puts another value in the place of a hot one, lane by lane, waits until nobody is inside the former,
-    /// and gives it back. Its node and its gate stay as they are, and each lane has one of both values at
-    /// each moment, so each call finds one.
+    /// Swaps a hot value for another, lane by lane, waits until nobody is inside the old one, and returns the
+    /// old one. The node and the gate stay as they are. Each lane has one of the two values at any time, so
+    /// each call finds one.
     ///
     /// Condition: the value suits the path.
     ///
-    /// Refusal: NoMemory. Then the value before stands as before, and the new one comes back.
+    /// Refusal: NoMemory. Then the old value is published as before, and the new one is returned.
     ///
-    /// Context: sleeps; takes no lock of the tree. It waits for all calls that are inside, so a function that
-    /// is inside must not call it. Nor may such a function call the value again: callers that come later wait
+    /// Context: sleeps; does not take the tree's lock. It waits for all calls that are inside, so a closure
+    /// that runs inside must not call it. Nor may such a closure call the value again: later callers wait
     /// behind the swap.
     pub fn swap_hot<R: Wait>(
         &self,

@@ -1,4 +1,5 @@
-//! A hot value, which threads call through a gate, each by a lane: an owner of it is in each lane.
+//! A hot value: threads call it through a gate, each through a lane. Each lane has an owner (an `Arc`) of the
+//! value.
 ghost use Rattle.std.specs.Prelude.{◌≡◌, ◌≤◌, ◌<◌, IfErr, IfOk, IsTrue, length, vec_len, true};
 ghost use Rattle.std.specs.Arc.{arc_value};
 ghost use Rattle.std.specs.Fn.{FnOnceReturnsAt, FnOnceTakesAt};
@@ -23,9 +24,9 @@ pub(crate) struct HotValue<T: Published> {
 }
 
 impl<T: Published> HotValue<T> {
-    /// The value, as it was published under this path.
+    /// A hot value that is published under this path.
     ///
-    /// Conditions: the value suits the path, and the path fits.
+    /// Conditions: the value suits the path, and the path has at most 256 bytes.
     pub(crate) fn new(path: &[u8], value: T) -> HotValue<T>
         requires suits { T.suits path.now value ≡ true }
         requires fits { length path.now ≤ 256 }
@@ -55,11 +56,11 @@ impl<T: Published> HotValue<T> {
     }
 }
 
-/// An owner of a hot value, as it was published under this path.
+/// The first owner of a hot value that is published under this path.
 ///
-/// Conditions: the value suits the path, and the path fits.
+/// Conditions: the value suits the path, and the path has at most 256 bytes.
 ///
-/// Refusal: NoMemory. Then the value comes back.
+/// Refusal: NoMemory. Then the value is returned.
 pub(crate) fn new_owner<T: Published>(
     alloc: Global,
     path: &[u8],
@@ -78,8 +79,8 @@ pub(crate) fn new_owner<T: Published>(
     }
 }
 
-/// The value of a hot value's only owner: it waits until there is no other, which is at once if each lane is
-/// empty.
+/// Takes the value out of its last owner. It waits until there is no other owner, which is at once if every
+/// lane is empty.
 pub(crate) fn only<T: Published, R: Wait>(rt: &R, own: Arc<HotValue<T>>) -> HotValue<T>
     ensures { result ≡ arc_value own }
 {
@@ -96,14 +97,15 @@ pub(crate) fn only<T: Published, R: Wait>(rt: &R, own: Arc<HotValue<T>>) -> HotV
 /// The place of a lane, with nothing else on its cache lines.
 type Lane<T> = CachePadded<RwLock<Option<Arc<HotValue<T>>>>>;
 
-/// A place for each lane. While somebody is inside by a lane, its place keeps its owner of the value.
+/// A place for each lane. While somebody is inside through a lane, the lane's place keeps its owner of the
+/// value.
 #[derive(Drop)]
 pub(crate) struct Lanes<T: Published> {
     places: Vec<Lane<T>>,
     ghost some: { 0 < vec_len places },
 }
 
-/// A place with a further owner of this value.
+/// The place of a lane, with another owner of this value.
 fn filled<T: Published>(own: &Arc<HotValue<T>>) -> Result<Lane<T>, AllocError> {
     Ok(CachePadded::new(RwLock::new(Some(Arc::try_clone(own)?))))
 }
@@ -111,7 +113,7 @@ fn filled<T: Published>(own: &Arc<HotValue<T>>) -> Result<Lane<T>, AllocError> {
 impl<T: Published> Lanes<T> {
     /// This many places, each with an owner of this value.
     ///
-    /// Condition: there is a lane.
+    /// Condition: there is at least one lane.
     pub(crate) fn new(
         alloc: Global,
         own: &Arc<HotValue<T>>,
@@ -127,10 +129,10 @@ impl<T: Published> Lanes<T> {
         Ok(Lanes { places })
     }
 
-    /// Lends the value to `f`, by the place of a lane. If the place does not have a value that was published
-    /// under this path, `f` comes back.
+    /// Lends the value in a lane's place to `f`. If the place does not have a value that was published under
+    /// this path, `f` is returned.
     ///
-    /// Condition: `f` may be called with each value that suits the path.
+    /// Condition: `f` may be called with every value that suits the path.
     pub(crate) fn lend<A, R: Wait, F: FnOnce(&T) -> A>(
         &self,
         rt: &R,
@@ -163,8 +165,9 @@ impl<T: Published> Lanes<T> {
         self.places.len() as u64
     }
 
-    /// Puts the owners of other lanes in the places of these, one after the other, so that each always has an
-    /// owner. It waits in each lane until nobody is inside by it.
+    /// Replaces the owner in each of these lanes with the owner in the same lane of `other`, one lane after
+    /// another. So each lane has an owner at all times. In each lane it waits until nobody is inside through
+    /// the lane.
     pub(crate) fn fill<R: Wait>(&self, rt: &R, other: Lanes<T>) {
         let Lanes { places } = other;
         let mut rest = places.into_iter();
@@ -175,7 +178,7 @@ impl<T: Published> Lanes<T> {
         }
     }
 
-    /// Empties each place. It waits until nobody is inside by the lane.
+    /// Empties the place of each lane. In each lane it waits until nobody is inside through the lane.
     pub(crate) fn clear<R: Wait>(&self, rt: &R) {
         for place in self.places.iter() {
             *place.write(rt) = None;
@@ -183,7 +186,7 @@ impl<T: Published> Lanes<T> {
     }
 }
 
-/// A hot value, as the place of its node has it.
+/// What the place of a hot value's node has.
 #[derive(Drop)]
 pub(crate) struct HotEntry<T: Published> {
     pub(crate) key: Key,
@@ -193,7 +196,7 @@ pub(crate) struct HotEntry<T: Published> {
 }
 
 impl<T: Published> HotEntry<T> {
-    /// What the place of the node of this key has: the gate was opened under this number, and this was its
+    /// The entry for the node of this key. The value's gate was opened under this number, and this was its
     /// first pass.
     pub(crate) fn new(key: Key, lanes: Arc<Lanes<T>>, number: u64, first: Pass) -> HotEntry<T>
         ensures key { result.key ≡ key }
@@ -206,11 +209,11 @@ impl<T: Published> HotEntry<T> {
         }
     }
 
-    /// What a thread calls the value by, through this lane.
+    /// A caller with which a thread calls the value through this lane.
     ///
-    /// Condition: the path fits.
+    /// Condition: the path has at most 256 bytes.
     ///
-    /// Refusals: TooManyHolds (the gate has had 2^32 passes), NoMemory.
+    /// Refusals: TooManyHolds (the gate has had 2^32 - 1 passes), NoMemory.
     pub(crate) fn caller<R: Wait>(
         &self,
         rt: &R,

@@ -1,17 +1,17 @@
-//! Named values that any thread calls, and that their owner takes away or swaps meanwhile: the registry of a
+//! Named values that any thread can call while their owner may take them back or swap them: a registry of a
 //! program's services, drivers or plug-ins.
 //!
 //! - `NewRegistry::new` makes a registry, and `named` gives it the name `N: Naming` of its tree's table.
-//! - `Registry::publish` puts a value under a path, `take` takes it away, and `swap` puts another in its
-//!   place. `take` and `swap` return the former value once nobody is inside (`Taken`). A call that is
+//! - `Registry::publish` publishes a value under a path, `take` takes it back, and `swap` replaces it. `take`
+//!   and `swap` return the old value (in a `Taken`) once nobody is inside it. A `publish` or `swap` that is
 //!   refused returns the new value.
-//! - `Registry::publish_hot` publishes a value that many threads call at once. Each has a `HotCaller`, which
-//!   goes through the value's gate by a lane. The value's owner has a `Hot`, by which `swap_hot` puts another
-//!   value in its place, and `take_hot` takes it back.
-//! - Each thread has a `ValueCaller`. Its `call` lends the value to a closure, with no lock of the tree if
-//!   that can be. While the closure runs nobody gets the value back.
-//! - `Published` is the trait of the values: by its ghost member `suits` a program says which value may stand
-//!   under which path, and has that of each value that is lent or comes back.
+//! - `Registry::publish_hot` publishes a value that many threads call at once. Each thread has a `HotCaller`,
+//!   which enters the value's gate through a lane. The owner of the value has a `Hot`. With it, `swap_hot`
+//!   replaces the value, and `take_hot` takes it back.
+//! - Each thread has a `ValueCaller`. Its `call` lends the value to a closure, if possible without taking the
+//!   tree's lock. Nobody gets the value back while the closure runs.
+//! - `Published` is the trait of the values. With its ghost member `suits` a program says which values may be
+//!   published under which path. Each value that is lent or returned then suits its path.
 #![tactic(auto)]
 
 mod caller;

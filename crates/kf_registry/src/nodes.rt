@@ -1,4 +1,4 @@
-//! The nodes of values: how they are created, and how a hot one is known.
+//! The nodes of values: how they are created, and how a hot one is recognized.
 ghost use Rattle.std.specs.Prelude.{◌↔◌, IfErr, IfOk, IsTrue};
 ghost use Rattle.kf_shared.specs.Locked.{Adds};
 ghost use Rattle.kf_registry.specs.Receipts.{IsHot, stands};
@@ -8,10 +8,10 @@ use kf_core::{Key, Node, Refusal};
 use kf_shared::{Editor, Naming};
 use kf_tree::State;
 
-/// What the node of a value is.
+/// The node of a value that is not hot.
 pub(crate) const VALUE: Node = Node::File { mode: 0, tag: 0 };
 
-/// What the node of a hot value is.
+/// The node of a hot value.
 pub(crate) const HOT: Node = Node::File { mode: 0, tag: 1 };
 
 /// Creates a live node in the root.

@@ -6,23 +6,24 @@ use crate::lanes::HotEntry;
 use arrayvec::ArrayVec;
 use kf_core::{Key, Refusal};
 
-/// A slash, and a name of 255 bytes.
+/// The greatest length of a path: a slash, and a name of 255 bytes.
 pub(crate) const LONGEST: usize = 256;
 
-/// What a registry keeps values of.
+/// The trait of the values that a registry keeps.
 ///
-/// A value may have to suit the path that it is published under: what that means is `suits`, which exists
-/// only in proofs. [`Registry::publish`](crate::Registry::publish) requires it, and it holds of each value
-/// that is lent or comes back. Whichever property it is, the registry keeps it. So a value that comes back
+/// A value may have to suit the path that it is published under. What that means is the ghost member `suits`,
+/// which exists only in proofs. [`Registry::publish`](crate::Registry::publish) requires it, and it holds of
+/// each value that is lent or returned. The registry preserves any such property. So a value that is returned
 /// from a path was published under that path.
 pub trait Published: Drop {
     ghost use Rattle.std.specs.Prelude.{ℕ, Bool, List, true};
 
-    /// This value may stand under this path. Each may, unless the implementation says otherwise.
+    /// Whether this value may be published under this path. Every value may, unless the implementation says
+    /// otherwise.
     ghost suits: { List ℕ → Self → Bool } = { λ _ _. true };
 }
 
-/// What is in a place: a value, or what a hot value is called by.
+/// What a place has: a value, or the entry by which a hot value is called.
 #[derive(Drop)]
 pub(crate) enum Stored<T: Published> {
     Plain(Entry<T>),
@@ -39,9 +40,9 @@ pub(crate) struct Entry<T: Published> {
 }
 
 impl<T: Published> Entry<T> {
-    /// The value of the node of this key, as it was published under this path.
+    /// The entry of a value that is published under this path. Its node has this key.
     ///
-    /// Conditions: the value suits the path, and the path fits.
+    /// Conditions: the value suits the path, and the path has at most 256 bytes.
     pub(crate) fn new(path: &[u8], key: Key, value: T) -> Entry<T>
         requires suits { T.suits path.now value ≡ true }
         requires fits { length path.now ≤ 256 }
@@ -56,7 +57,7 @@ impl<T: Published> Entry<T> {
         }
     }
 
-    /// Whether it is that of this node, and was published under this path.
+    /// Whether this is the value of this key's node, and was published under this path.
     pub(crate) fn is_of(&self, key: Key, path: &[u8]) -> bool
         ensures suits { IsTrue result → T.suits path.now self.now.value ≡ true }
     {
@@ -78,7 +79,7 @@ impl<T: Published> Entry<T> {
 
 /// A copy of a path.
 ///
-/// Condition: it fits.
+/// Condition: the path has at most 256 bytes.
 pub(crate) fn copy_of(path: &[u8]) -> ArrayVec<u8, 256>
     requires fits { length path.now ≤ 256 }
     ensures same { result.items ≡ path.now }
@@ -90,9 +91,10 @@ pub(crate) fn copy_of(path: &[u8]) -> ArrayVec<u8, 256>
     }
 }
 
-/// The name in the root that a path names.
+/// The name in the root to which a path leads.
 ///
-/// Refusals, in order: Invalid (it is not a slash and a name, or the name begins with a dot), NameTooLong.
+/// Refusals, in order: Invalid (the path is not a slash and a name, or the name begins with a dot),
+/// NameTooLong (the name has more than 255 bytes).
 pub(crate) fn name_of(path: &[u8]) -> Result<&[u8], Refusal>
     ensures name { MatchResult result (λ name. name_in path.now ≡ Ok name.now)
         (λ why. name_in path.now ≡ Err why) }

@@ -15,7 +15,7 @@ use std::alloc::Global;
 use std::marker::Brand;
 use std::sync::{RwLock, Wait};
 
-/// A registry that has no name yet: [`NewRegistry::named`] makes of it the one that threads share.
+/// A registry that has no name yet. [`NewRegistry::named`] turns it into the `Registry` that threads share.
 #[derive(Drop)]
 pub struct NewRegistry<T: Published> {
     alloc: Global,
@@ -25,10 +25,11 @@ pub struct NewRegistry<T: Published> {
 }
 
 impl<T: Published> NewRegistry<T> {
-    /// A registry without values. At each moment it may have this many of them; a value counts until the
-    /// [`Taken`](crate::Taken) that it came back by is spent. And this many threads may have a caller.
+    /// A registry without values. It has room for `values` values at a time, and `callers` threads, at most
+    /// 65,531, may have a caller. A value takes up its room until the [`Taken`](crate::Taken) that returned
+    /// it is spent.
     ///
-    /// Refusal: NoMemory. (It never asks for more slots or holds than a tree may have.)
+    /// Refusal: NoMemory. (The numbers of slots and holds are always within the limits of a tree.)
     pub fn new(alloc: Global, values: u16, callers: u16) -> Result<NewRegistry<T>, Refusal> {
         let slots = 1 + u32::from(values) + u32::from(callers);
         let holds = u32::from(callers.saturating_add(4));
@@ -38,7 +39,7 @@ impl<T: Published> NewRegistry<T> {
         for _ in 1..slots {
             places.push(RwLock::new(None))?;
         }
-        places.push(RwLock::new(None))?; // that of the root
+        places.push(RwLock::new(None))?; // so there is at least one
         Ok(NewRegistry {
             alloc,
             tree,
@@ -46,9 +47,9 @@ impl<T: Published> NewRegistry<T> {
         })
     }
 
-    /// The registry under the name of its tree's table. It takes no memory.
+    /// Turns this into a `Registry` with the name of its tree's table. It allocates nothing.
     ///
-    /// Condition: the name is that of this tree's table of words.
+    /// Condition: `N` is the name of this tree's table of words.
     pub fn named<N: Naming>(self) -> Registry<N, T>
         requires table { self.tree.master.table ≡ N.table }
     {
@@ -65,8 +66,8 @@ impl<T: Published> NewRegistry<T> {
     }
 }
 
-/// Values by the slots of their nodes. While somebody is inside a node its place keeps its value. Threads
-/// share it by reference.
+/// A registry: published values, each in the place of its node's slot. While somebody is inside a node, the
+/// node's place keeps its value. Threads share a registry by reference.
 #[derive(Drop)]
 pub struct Registry<N: Naming, T: Published> {
     pub(crate) alloc: Global,
@@ -76,17 +77,17 @@ pub struct Registry<N: Naming, T: Published> {
 }
 
 impl<N: Naming, T: Published> Registry<N, T> {
-    /// The place of a node. There are as many places as slots, so the remainder is the slot itself.
+    /// The place of a node. There is one place for each slot, so the remainder is the slot itself.
     pub(crate) fn place(&self, key: Key) -> &RwLock<Option<Stored<T>>> {
         &self.places[key.slot as usize % self.places.len()]
     }
 
-    /// Creates the live node of a value, and puts the value into its place: a caller that found the node
-    /// before that waits for this lock.
+    /// Creates the live node of a value, and then puts the value into the node's place. A caller that finds
+    /// the node in between waits for the tree's lock, which `editor` has.
     ///
-    /// Conditions: the value suits the path, and the path fits.
+    /// Conditions: the value suits the path, and the path has at most 256 bytes.
     ///
-    /// Refusals: those of [`Editor::create`]. Then nothing is changed, and the value comes back.
+    /// Refusals: those of [`Editor::create`]. Then nothing is changed, and the value is returned.
     pub(crate) fn stand<R: Wait>(
         &self,
         rt: &R,
@@ -113,15 +114,16 @@ impl<N: Naming, T: Published> Registry<N, T> {
         }
     }
 
-    /// Puts a value under a path, live at once: a slash, and a name that does not begin with a dot.
+    /// Publishes a value under a path, so that it can be called at once. The path is a slash and a name that
+    /// does not begin with a dot.
     ///
     /// Condition: the value suits the path.
     ///
-    /// Refusals, in order: Invalid, NameTooLong (the path is not such a path), Invalid (the name is none),
-    /// Exists, NoSpace (there are as many values as there may be), NoMemory. After a refusal nothing is
-    /// changed, and the value comes back.
+    /// Refusals, in order: Invalid (the path does not have this form), NameTooLong (the name has more than
+    /// 255 bytes), Invalid (the name is not lawful), Exists, NoSpace (the registry already has the greatest
+    /// number of values), NoMemory. After a refusal nothing is changed, and the value is returned.
     ///
-    /// Context: takes the tree's lock, which its caller must not have.
+    /// Context: takes the tree's lock; the caller must not hold it.
     pub fn publish<R: Wait>(
         &self,
         rt: &R,
@@ -149,12 +151,12 @@ impl<N: Naming, T: Published> Registry<N, T> {
         }
     }
 
-    /// The names that are published above a bound, in byte order, at most this many, each without its slash.
-    /// They are those of one moment.
+    /// The published names above a bound, in byte order, each without its slash, at most this many. The list
+    /// is that of one moment.
     ///
     /// Refusal: NoMemory.
     ///
-    /// Context: takes the tree's lock, which its caller must not have.
+    /// Context: takes the tree's lock; the caller must not hold it.
     pub fn list<R: Wait>(
         &self,
         rt: &R,
@@ -170,11 +172,11 @@ impl<N: Naming, T: Published> Registry<N, T> {
         state.list(state.root(), after, most)
     }
 
-    /// What a thread calls, publishes and takes values by.
+    /// A new caller, with which a thread calls, publishes and takes values.
     ///
-    /// Refusals: TooManyHolds (there are as many callers as there may be), NoMemory.
+    /// Refusals: TooManyHolds (the registry already has the greatest number of callers), NoMemory.
     ///
-    /// Context: takes the tree's lock, which its caller must not have.
+    /// Context: takes the tree's lock; the caller must not hold it.
     pub fn caller<R: Wait>(&self, rt: &R) -> Result<ValueCaller<N>, Refusal> {
         let holder = PathHolder::new(self.alloc, &mut self.tree.edit(rt))?;
         Ok(ValueCaller { holder })

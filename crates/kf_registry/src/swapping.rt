@@ -1,4 +1,4 @@
-//! Putting another value in the place of one that is published.
+//! Swapping a published value for another.
 ghost use Rattle.std.specs.Prelude.{◌≡◌, ◌≤◌, ℕ, List, Ok, IfErr, IfOk, length, true};
 ghost use Rattle.kf_core.specs.declared.command.Command.TheVariants.{Doom};
 ghost use Rattle.kf_tree.specs.Paths.{seen};
@@ -17,12 +17,12 @@ use kf_core::{Key, Refusal};
 use kf_shared::{Editor, Naming, Removing};
 use std::sync::Wait;
 
-/// A digit of 16, as one of the letters from `a` on.
+/// The lowest four bits of a number, as one of the letters `a` to `p`.
 fn digit(number: u32) -> u8 {
     b'a' + (number % 16) as u8
 }
 
-/// The name that the node of a slot gets before it is removed: no path of a registry leads there, and no
+/// The name that the node of a slot gets before it is removed. No path of a registry leads there, and no
 /// other linked node has it.
 fn leaving_name(slot: u32) -> [u8; 9]
     ensures leaving { IsLeaving result }
@@ -40,8 +40,9 @@ fn leaving_name(slot: u32) -> [u8; 9]
     ]
 }
 
-/// Moves the live node that a path names to its leaving name. That it may have a hold more is tried first:
-/// the last place is kept for the tree, so its removal will get that.
+/// Moves the live node that a path names to its leaving name. First it takes a hold of the node and releases
+/// it, to test that there is room for one more. The last place for a hold is kept for the tree, so the
+/// removal of the node will get that place.
 ///
 /// Refusals, in order: those of [`kf_tree::State::lookup`], Busy (its value is hot), TooManyHolds or
 /// NoMemory, those of [`Editor::rename`]. Then nothing is changed.
@@ -61,7 +62,7 @@ fn move_away<N: Naming>(editor: &mut Editor<'_, N>, path: &[u8]) -> Result<Key, 
     Ok(old)
 }
 
-/// Moves a node back to its name. It tries until there is memory: if it gave up, the path would have lost
+/// Moves a node back to its name. It retries until there is memory: if it gave up, the path would have lost
 /// its value.
 fn move_back<N: Naming, R: Wait>(rt: &R, editor: &mut Editor<'_, N>, old: Key, name: &[u8]) {
     let root = editor.state().root();
@@ -72,8 +73,8 @@ fn move_back<N: Naming, R: Wait>(rt: &R, editor: &mut Editor<'_, N>, old: Key, n
     }
 }
 
-/// Dooms a node. It tries until there is memory: if it gave up, nobody could take the value of this node
-/// any more.
+/// Dooms a node. It retries until there is memory: if it gave up, nobody could take the value of this node
+/// from then on.
 fn doom<N: Naming, R: Wait>(rt: &R, editor: &mut Editor<'_, N>, old: Key) -> Removing<N>
     ensures noted { Adds editor.old editor.new (Did (Doom old)) }
     ensures last { Last (λ hold. hold.key ≡ old) result }
@@ -87,9 +88,9 @@ fn doom<N: Naming, R: Wait>(rt: &R, editor: &mut Editor<'_, N>, old: Key) -> Rem
 }
 
 impl<N: Naming, T: Published> Registry<N, T> {
-    /// Moves the node of a path away, creates one with another value there, and dooms the former.
+    /// Moves the node under a path away, creates one with another value there, and dooms the old one.
     ///
-    /// Conditions: the value suits the path, and the path fits.
+    /// Conditions: the value suits the path, and the path has at most 256 bytes.
     fn exchange<R: Wait>(
         &self,
         rt: &R,
@@ -122,18 +123,19 @@ impl<N: Naming, T: Published> Registry<N, T> {
         }
     }
 
-    /// Puts another value in the place of the one under a path, waits until nobody is inside that any more,
-    /// and gives it back. The tree's lock is held once for all that, so at each moment at which it is free
-    /// one of both stands under the path; and a caller that finds neither without the lock waits for it.
+    /// Swaps the value under a path for another, waits until nobody is inside the old one, and returns the
+    /// old one. The values change places in one critical section, so the swap never leaves the path without a
+    /// value while the lock is free. A caller that finds neither value without the lock waits for the lock.
     ///
     /// Condition: the value suits the path.
     ///
-    /// Refusals, in order: Invalid, NameTooLong (as [`Registry::publish`]); those of
+    /// Refusals, in order: Invalid, NameTooLong (as in [`Registry::publish`]); those of
     /// [`kf_tree::State::lookup`] (NoEntry: nothing is published there, or it is being taken); Busy (the
-    /// value is hot: its owner has it); TooManyHolds or NoMemory; NoSpace (there are as many values as there
-    /// may be), NoMemory. After a refusal the value before stands as before, and the new one comes back.
+    /// value is hot, so only its owner swaps it); TooManyHolds or NoMemory; NoSpace (the registry already
+    /// has the greatest number of values), NoMemory. After a refusal the old value is published as before,
+    /// and the new one is returned.
     ///
-    /// Context: as [`Registry::take`].
+    /// Context: as in [`Registry::take`].
     pub fn swap<R: Wait>(
         &self,
         rt: &R,

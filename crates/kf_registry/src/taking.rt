@@ -1,4 +1,4 @@
-//! Taking a value away.
+//! Taking a value back.
 ghost use Rattle.std.specs.Prelude.{◌≡◌, ◌∷◌, ◌++◌, [], List, IfErr, IfOk, IfSome, MatchOption, true};
 ghost use Rattle.kf_core.specs.declared.caller.Phase.TheVariants as phase_of;
 ghost use Rattle.kf_core.specs.declared.command.Command.TheVariants.{Doom};
@@ -19,9 +19,9 @@ use kf_shared::{Editor, Naming, Removing, release_all};
 use kf_words::Parted;
 use std::sync::Wait;
 
-/// A value that came back, with the receipt of its node, and the gate of a hot one, which is closed: nobody
-/// is inside, and nobody comes in any more. The node's slot is not used again until this is spent, by
-/// `into_value`, or dropped.
+/// A value that was taken back, with the receipt of its node and, if it was hot, its closed gate. Nobody is
+/// inside the value, and nobody will enter. The node's slot is not used again until this is passed to
+/// `into_value` or dropped.
 pub struct Taken<T: Published> {
     pub(crate) value: T,
     pub(crate) receipt: Parted,
@@ -36,7 +36,7 @@ impl<T: Published> Taken<T> {
         self.receipt.key()
     }
 
-    /// The value. The receipt is released.
+    /// Releases the receipt, and returns the value.
     pub fn into_value(self) -> T
         ensures { result ≡ self.value }
     {
@@ -62,7 +62,7 @@ impl<T: Published> Drop for Taken<T> {
     }
 }
 
-/// The last of the receipts. The others are released.
+/// Returns the last of the receipts, and releases the others.
 pub(crate) fn last_of(mut receipts: Vec<Parted>) -> Option<Parted>
     ensures last { MatchOption result (receipts.items ≡ [])
         (λ last. (front : List Handle) × (receipts.items ≡ front ++ last ∷ [])) }
@@ -72,8 +72,8 @@ pub(crate) fn last_of(mut receipts: Vec<Parted>) -> Option<Parted>
     last
 }
 
-/// The value of the node of this key, which was published under this path: the place is empty after that.
-/// None if the place has none, and then it stays as it was.
+/// Takes the value of this key's node, which was published under this path, out of its place. Returns None if
+/// the place does not have this value, and then the place stays as it was.
 fn out_of<T: Published>(place: &mut Option<Stored<T>>, key: Key, path: &[u8]) -> Option<T>
     ensures suits { IfSome result (λ value. T.suits path.now value ≡ true) }
 {
@@ -91,8 +91,8 @@ fn out_of<T: Published>(place: &mut Option<Stored<T>>, key: Key, path: &[u8]) ->
 }
 
 impl<N: Naming, T: Published> Registry<N, T> {
-    /// Takes the value of a node that has left the tree out of its place. It waits until the value is there,
-    /// which it is as soon as its node was found under the lock.
+    /// Takes the value of a node that has left the tree out of its place. It waits until the value is there.
+    /// That is at once if the node was found under the lock.
     fn value_of<R: Wait>(&self, rt: &R, path: &[u8], receipt: &Parted) -> T
         ensures suits { T.suits path.now result ≡ true }
         ensures parted { receipt.now.phase ≡ phase_of.Parted }
@@ -135,15 +135,15 @@ impl<N: Naming, T: Published> Registry<N, T> {
         }
     }
 
-    /// Takes away the value under a path, waits until nobody is inside, and gives it back. From the moment
-    /// at which it marks the node no call begins there, and the path is free again when this returns.
+    /// Takes back the value under a path: waits until nobody is inside, and returns the value. Once the node
+    /// is marked, no call begins there. When this function returns, the path is free again.
     ///
     /// Refusals, in order: those of [`kf_tree::State::lookup`] (NoEntry: nothing is published there, or it is
-    /// being taken); Busy (the value is hot: its owner takes it); Invalid (the root); TooManyHolds or
-    /// NoMemory, whichever is met first. After a refusal the value stands as before.
+    /// being taken); Busy (the value is hot, so only its owner takes it); Invalid (the root); TooManyHolds or
+    /// NoMemory, whichever is met first. After a refusal the value is published as before.
     ///
-    /// Context: sleeps; takes the tree's lock, which its caller must not have. It waits for all who are
-    /// inside, so a function that is inside must not call it.
+    /// Context: sleeps; takes the tree's lock; the caller must not hold it. It waits for all calls that are
+    /// inside, so a closure that runs inside must not call it.
     pub fn take<R: Wait>(
         &self,
         rt: &R,

@@ -1,4 +1,4 @@
--- A byte and a name behind what is gathered.
+-- A byte and a name are put after what is gathered.
 use Rattle.std.proofs.Common.{◌≡◌, ℕ, ◌+◌, ◌<◌, List, [], ◌∷◌, ◌++◌, length, length-append, take, set, ap, ◌∙◌, arith, append_assoc}
 use Rattle.std.proofs.lemmas.List.{take_more_set, take_at, length-take-le}
 

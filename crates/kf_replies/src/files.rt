@@ -1,4 +1,4 @@
-//! What a file's read or write returned.
+//! Replies that report what a read or a write of a file returned.
 
 ghost use Rattle.std.specs.Prelude.{◌≡◌};
 ghost use Rattle.kf_replies.specs.ReplyParts.{count_text, error_text};
@@ -6,7 +6,7 @@ ghost use Rattle.kf_replies.specs.ReplyParts.{count_text, error_text};
 use kf_pages::FileError;
 use kf_script::Reply;
 
-/// Writes what a read or a write of a file met: a refusal, or the fault of a callback.
+/// Writes why a read or a write of a file failed: a refusal, or the fault of a callback.
 pub fn tell_error(reply: &mut Reply, error: FileError)
     ensures told { reply.new ≡ error_text error }
 {

@@ -1,5 +1,5 @@
-//! Replies that speak of the types of a tree, or of a file: for every board whose nodes and files are of
-//! these types.
+//! Replies that report nodes of a tree, and what reads and writes of files returned. They are for every board
+//! whose nodes and files are of these types.
 #![tactic(auto)]
 
 mod files;

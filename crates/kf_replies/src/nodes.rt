@@ -1,4 +1,4 @@
-//! What is reported of nodes.
+//! Replies that report nodes.
 
 ghost use Rattle.std.specs.Prelude.{◌≡◌, IfErr, OnOk};
 ghost use Rattle.kf_core.specs.declared.refusal.Refusal.TheVariants.{NoMemory};
@@ -10,7 +10,8 @@ use kf_core::Refusal;
 use kf_script::{NodeState, Reply};
 use kf_tree::{Names, Stat};
 
-/// Writes names, with one space between two. Refuses only `NoMemory`; the text is then unknown.
+/// Writes names, separated by single spaces. The only refusal is `NoMemory`. After a refusal the text is
+/// unknown.
 pub fn tell_names(reply: &mut Reply, names: Names<'_>) -> Result<(), Refusal>
     ensures text { OnOk result (reply.new ≡ names_text names.entry) }
     ensures refused { IfErr result (λ refusal. refusal ≡ NoMemory) }
@@ -32,7 +33,7 @@ pub fn tell_names(reply: &mut Reply, names: Names<'_>) -> Result<(), Refusal>
     part.give(reply)
 }
 
-/// The state that is reported of a node.
+/// The state of a node, as `stat` reports it.
 fn state_of(stat: &Stat) -> NodeState
     ensures told { result ≡ state_of stat.now }
 {
@@ -49,7 +50,7 @@ fn state_of(stat: &Stat) -> NodeState
     }
 }
 
-/// Writes what `stat` says of a node: its kind, what its kind has, and its state.
+/// Writes what `stat` reports of a node: its kind, what a node of this kind has, and its state.
 pub fn tell_stat(reply: &mut Reply, stat: &Stat)
     ensures told { reply.new ≡ told_text stat.now }
 {

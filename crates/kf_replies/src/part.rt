@@ -1,4 +1,4 @@
-//! A part of a reply that is gathered before it is put there.
+//! A part of a reply, which is gathered before it is appended to the reply.
 
 ghost use Rattle.std.specs.Prelude.{◌≡◌, ◌≤◌, ◌<◌, ◌+◌, ◌++◌, ◌∷◌, [], length, IsTrue, ◌↔◌, IfErr, OnOk};
 ghost use Rattle.kf_core.specs.declared.refusal.Refusal.TheVariants.{NoMemory};
@@ -7,11 +7,11 @@ use kf_core::Refusal;
 use kf_script::Reply;
 use std::marker::Model;
 
-/// How many bytes are gathered at most.
+/// The greatest number of bytes that are gathered.
 const MOST: usize = 512;
 
-/// Bytes that a reply is to be given at once: to put each name of a long listing there by itself takes longer
-/// than to find the name. Contracts see the bytes.
+/// Bytes that are appended to a reply all at once. To append each name of a long listing by itself would take
+/// longer than to find the name. Contracts see the bytes.
 #[derive(Drop)]
 pub(crate) struct Part {
     bytes: [u8; MOST],
@@ -29,7 +29,7 @@ impl Model for Part {
 }
 
 impl Part {
-    /// Nothing yet.
+    /// An empty part.
     pub(crate) fn new() -> Part
         ensures empty { result ≡ [] }
     {
@@ -47,7 +47,7 @@ impl Part {
         self.len <= MOST - 256
     }
 
-    /// Puts a byte behind the others, and then a name.
+    /// Appends a byte, and then a name.
     #[inline(always)]
     pub(crate) fn push_after(&mut self, first: u8, name: &[u8])
         requires room { length self.old + 256 ≤ 512 }
@@ -61,7 +61,8 @@ impl Part {
         self.len = end;
     }
 
-    /// Gives all to the reply. Refuses only `NoMemory`; the text of the reply is then unknown.
+    /// Appends all bytes to the reply, and empties the part. The only refusal is `NoMemory`. After a refusal
+    /// the text of the reply is unknown.
     pub(crate) fn give(&mut self, reply: &mut Reply) -> Result<(), Refusal>
         ensures given { OnOk result (reply.new ≡ reply.old ++ self.old) }
         ensures emptied { self.new ≡ [] }

@@ -1,4 +1,4 @@
--- Pieces of a text, put behind one another and taken from the front.
+-- Texts are put at the end of a buffer, one after another, and are taken from its front.
 use Rattle.std.proofs.Common.{◌≡◌, ℕ, ◌+◌, ◌-◌, ◌≤◌, List, [], ◌∷◌, ◌++◌, length, take, drop, refl, ap, ap₂, ◌∙◌, arith}
 use Rattle.std.proofs.lemmas.List.{take-append-le, drop-append-le, length-drop, length-append, take_all}
 use Rattle.kf_rounds.specs.Pieces.{pieces, total}
@@ -23,7 +23,7 @@ pieces_push bytes text (n ∷ counts) e =
     ∙ ap (λ b. take n bytes ∷ pieces b (counts ++ length text ∷ [])) (drop-append-le n bytes text fits)
     ∙ ap (λ ps. take n bytes ∷ ps) (pieces_push (drop n bytes) text counts rest)
 
--- a text put behind those that were not yet taken
+-- a text is put after those that were not yet taken
 pub added_fits : (from taken : ℕ) (bytes text counts bytes' counts' : List ℕ) → from + total (drop taken counts) ≡ length bytes → taken ≤ length counts
     → bytes' ≡ bytes ++ text → counts' ≡ counts ++ length text ∷ [] → (from + total (drop taken counts') ≡ length bytes') × (taken ≤ length counts')
 added_fits from taken bytes text counts bytes' counts' whole near b c =

@@ -1,4 +1,4 @@
--- Replies of one seat's board to its commands.
+-- What the board of one seat replies to its commands.
 use Rattle.std.proofs.Common.{◌≡◌, ℕ, suc, ◌+◌, ◌<◌, List, [], ◌∷◌, ◌++◌, length, take, drop, get_or, refl, sym, ap, ◌∙◌, subst, arith, Bool, true, false, ◌==◌, if◌then◌else◌}
 use Rattle.std.proofs.lemmas.List.{take-append-drop}
 use Rattle.std.proofs.lemmas.Grind.{flat_map-append}
@@ -23,7 +23,7 @@ module _ {Board : Type 0} (step : Step Board) where
       let p = tells_push t.0.0 middle now cs rs c r starved (t.0.3, (let n = t.1 in omega arith)) a in
       ((t.0.0, t.0.1, t.0.2, p.0), ap suc p.1)
 
-  -- if further commands have no reply, nothing is said of what the board is
+  -- if further commands have no reply, nothing is said about the board now
   pub tells_part : (before middle now : Board) (cs rs : List (List ℕ)) (d : List ℕ) (ds : List (List ℕ)) → Tells step before cs rs middle → length rs ≡ length cs
       → Tells step before (cs ++ d ∷ ds) rs now
   tells_part before middle now [] [] d ds t n = tt
@@ -31,7 +31,7 @@ module _ {Board : Type 0} (step : Step Board) where
   tells_part before middle now (c ∷ cs) [] d ds t n = absurd (omega arith)
   tells_part before middle now (c ∷ cs) (r ∷ rs) d ds t n = (t.0, t.1, t.2, tells_part t.0 middle now cs rs d ds t.3 (omega arith))
 
-  -- one board's replies, and what it replied from there on
+  -- a board's replies, followed by what it replied from there on
   pub tells_append : (before middle now : Board) (cs rs ds qs : List (List ℕ)) → Tells step before cs rs middle → length rs ≡ length cs
       → Tells step middle ds qs now → Tells step before (cs ++ ds) (rs ++ qs) now
   tells_append before middle now [] [] ds qs t n later = subst (λ b. Tells step b ds qs now) t later
@@ -39,7 +39,7 @@ module _ {Board : Type 0} (step : Step Board) where
   tells_append before middle now (c ∷ cs) [] ds qs t n later = absurd (omega arith)
   tells_append before middle now (c ∷ cs) (r ∷ rs) ds qs t n later = (t.0, t.1, t.2, tells_append t.0 middle now cs rs ds qs t.3 (omega arith) later)
 
-  -- no board says more than it was asked
+  -- a board has at most one reply for each command
   pub tells_front : (before now : Board) (cs rs more : List (List ℕ)) → length rs ≡ length cs → Tells step before cs (rs ++ more) now → Tells step before cs rs now
   tells_front before now [] [] [] n t = t
   tells_front before now [] [] (x ∷ more) n t = absurd t
@@ -47,12 +47,12 @@ module _ {Board : Type 0} (step : Step Board) where
   tells_front before now (c ∷ cs) [] more n t = absurd (omega arith)
   tells_front before now (c ∷ cs) (r ∷ rs) more n t = (t.0, t.1, t.2, tells_front t.0 now cs rs more (omega arith) t.3)
 
-  -- who is no seat says nothing
+  -- an unchanged board and no replies fit any commands
   pub tells_none : (board : Board) (cs : List (List ℕ)) → Tells step board cs [] board
   tells_none board [] = refl
   tells_none board (c ∷ cs) = tt
 
-  -- one line further
+  -- the replies after one more line
   pub told_line : (before middle now : Board) (cs own old new : List (List ℕ)) (n : length own < 2) → TellsAll before cs old middle → Adds step own middle old now new
       → TellsAll before (cs ++ own) new now
   told_line before middle now cs [] old new n t a =
@@ -70,14 +70,14 @@ own_short who (of_seat w command) = one_or_none (w == who)
     one_or_none true = omega arith
     one_or_none false = omega arith
 
--- the commands of one line more
+-- the commands of the lines so far and of one more line
 commands_next : (who : ℕ) (ks : List KindOfLine) (i : ℕ) → i < length ks → commands_of who (take (i + 1) ks) ≡ commands_of who (take i ks) ++ own_command who (get_or ks i bad)
 commands_next who ks i near =
     let n : i + 1 ≡ suc i = omega arith in
     ap (commands_of who) (ap (λ k. take k ks) n ∙ take-suc ks i bad near) ∙ flat_map-append (own_command who) (take i ks) (get_or ks i bad ∷ [])
     ∙ ap (λ l. commands_of who (take i ks) ++ l) (append-nil (own_command who (get_or ks i bad)))
 
--- those of the lines so far, of the next one, and of the others
+-- all commands are those of the lines so far, of the next line, and of the others
 commands_cut : (who : ℕ) (ks : List KindOfLine) (i : ℕ) → i < length ks
     → commands_of who ks ≡ commands_of who (take i ks) ++ (own_command who (get_or ks i bad) ++ commands_of who (drop (suc i) ks))
 commands_cut who ks i near =

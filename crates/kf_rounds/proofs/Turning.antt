@@ -1,4 +1,4 @@
--- Turns, one line after another.
+-- Lines get their turns, one after another.
 use Rattle.std.proofs.Common.{◌≡◌, ◌≢◌, ℕ, zero, suc, ◌+◌, ◌<◌, List, [], ◌∷◌, ◌++◌, length, take, drop, get_or, set, map, All, refl, sym, ap, ◌∙◌, subst, arith, eq-eqb, ne_eqb, get_or-set_same, get_or-set_other, if◌then◌else◌}
 use Rattle.std.proofs.lemmas.Grind.{flat_map-append}
 use mathlib.Core.Logic.{dite}
@@ -27,7 +27,7 @@ one_turn : (t : Turn) → HasFixed t → All HasFixed (t ∷ [])
 one_turn t p zero d near = p
 one_turn t p (suc k) d near = absurd (omega arith)
 
--- what a turn dealt
+-- what a seat had ready is the reply that this turn dealt, if the turn was the seat's, and then what is left
 dealt_one : (who w : ℕ) (command reply : List ℕ) (later : List (List ℕ)) (said : List (List (List ℕ))) → get_or said w [] ≡ reply ∷ later
     → get_or said who [] ≡ own_reply who (of_seat w command) reply ++ get_or (set said w later) who []
 dealt_one who w command reply later said e =
@@ -43,7 +43,7 @@ text_one t = append-nil (reply_line t)
 replies_one : (who : ℕ) (t : Turn) → replies_of who (t ∷ []) ≡ reply_of who t
 replies_one who t = append-nil (reply_of who t)
 
--- one line's turn
+-- the turn of one line
 pub put_one : (k : KindOfLine) (said said' : List (List (List ℕ))) (out out' : List ℕ) → Puts k said said' out out' → PutOut (k ∷ []) said said' out out'
 put_one bad said said' out out' p = let t : Turn = record { kind = bad; reply = bad_line_text } in record {
   turns = t ∷ [];
@@ -82,7 +82,7 @@ put_more ks ls said said' said'' out out' out'' h l = record {
   bytes_are = l.bytes_are ∙ ap (λ x. x ++ text l.turns) h.bytes_are ∙ append_assoc out (text h.turns) (text l.turns) ∙ ap (λ x. out ++ x) (sym (flat_map-append reply_line h.turns l.turns));
 }
 
--- a reply for each command
+-- a line has one reply of a seat for each command of that seat
 same_own : (who : ℕ) (k : KindOfLine) (reply : List ℕ) → length (own_reply who k reply) ≡ length (own_command who k)
 same_own who bad reply = refl
 same_own who ends_round reply = refl
@@ -104,7 +104,7 @@ pub as_many : (who : ℕ) (turns : List Turn) (ks : List KindOfLine) → map kin
 as_many who turns ks e = same_count who turns ∙ ap (λ l. length (commands_of who l)) e
 
 module _ {Board : Type 0} (step : Step Board) where
-  -- what the seats said was put out
+  -- what the seats replied was put out
   pub replied_round : (ks : List KindOfLine) (before now : List Board) (said said' : List (List (List ℕ))) (out out' : List ℕ) → EachTells step ks before said now
       → PutOut ks said said' out out' → Replied step ks before now out out'
   replied_round ks before now said said' out out' t p = record {
@@ -119,7 +119,7 @@ module _ {Board : Type 0} (step : Step Board) where
   pub replied_none : (before : List Board) (out : List ℕ) → Replied step [] before before out out
   replied_none before out = record { turns = []; kinds_are = refl; fixed = All-nil HasFixed; ran = λ who d. refl; bytes_are = sym (append-nil out) }
 
-  -- the replies of one round behind those of the earlier ones
+  -- the replies of one round follow those of the earlier rounds
   pub replied_more : (ks ls : List KindOfLine) (before middle now : List Board) (old out out' : List ℕ) → Replied step ks before middle old out → Replied step ls middle now out out'
       → Replied step (ks ++ ls) before now old out'
   replied_more ks ls before middle now old out out' h l = record {
@@ -133,7 +133,7 @@ module _ {Board : Type 0} (step : Step Board) where
     bytes_are = l.bytes_are ∙ ap (λ x. x ++ text l.turns) h.bytes_are ∙ append_assoc old (text h.turns) (text l.turns) ∙ ap (λ x. old ++ x) (sym (flat_map-append reply_line h.turns l.turns));
   }
 
-  -- what holds of each seat holds at each number, and beyond them of nothing said
+  -- what is true of each seat is true of each number; a number beyond the seats has no replies
   pub each_told : {S : Type 0} (board : S → Board) (said : S → List (List ℕ)) (olds news : List S) (cs : ℕ → List (List ℕ)) → length news ≡ length olds
       → ((who : ℕ) (d : S) → who < length olds → Tells step (board (get_or olds who d)) (cs who) (said (get_or news who d)) (board (get_or news who d)))
       → (who : ℕ) (d : Board) → Tells step (get_or (map board olds) who d) (cs who) (get_or (map said news) who []) (get_or (map board news) who d)
@@ -144,7 +144,7 @@ module _ {Board : Type 0} (step : Step Board) where
   each_told board said (x ∷ olds) (y ∷ news) cs n h (suc who) d =
       each_told board said olds news (λ w. cs (suc w)) (omega arith) (λ w d' near. h (suc w) d' (omega arith)) who d
 
--- a few more, behind those taken
+-- taking some more items takes those that follow
 pub taken_more : {X : Type 0} (l : List X) (from count : ℕ) → take (from + count) l ≡ take from l ++ take count (drop from l)
 taken_more l zero count = ap (λ n. take n l) (omega arith)
 taken_more [] (suc from) count = nothing (suc from + count) ∙ sym (nothing count)

@@ -3,7 +3,7 @@ use Rattle.std.specs.Prelude.{ℕ, ◌+◌, List, [], length, Option, Some, None
 use Rattle.std.specs.List.{slice_split}
 use Rattle.kf_script.specs.Lines.{is_newline}
 
--- the lines of what follows a newline, if one is there
+-- the lines of what follows a newline, if there is a newline
 abbrev pub later_lines : Option (List ℕ) → List (List ℕ)
 later_lines None = []
 later_lines (Some text) = slice_split is_newline text

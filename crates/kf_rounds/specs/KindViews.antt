@@ -1,4 +1,4 @@
--- A line's kind in the code, without the place in memory where its bytes lie.
+-- A line's kind in the code, without the address of its bytes.
 use Rattle.kf_rounds.specs.Kinds.{KindOfLine, bad, ends_round, of_seat}
 use Rattle.kf_rounds.specs.declared.kind.LineKind.{LineKind}
 use Rattle.kf_rounds.specs.declared.kind.LineKind.TheVariants.{Bad, EndsRound, Command}

@@ -2,11 +2,11 @@
 use Rattle.std.specs.Prelude.{ℕ, List, map}
 use Rattle.kf_rounds.specs.declared.runner.Runner.{Runner}
 
--- its board
+-- the board of a seat
 abbrev pub board_of : {B : Type 0} → Runner B → B
 board_of seat = seat.board
 
--- its replies that were not yet put out
+-- the replies of a seat that are not in the output yet
 abbrev pub untaken : {B : Type 0} → Runner B → List (List ℕ)
 untaken seat = seat.replies
 
@@ -14,6 +14,6 @@ untaken seat = seat.replies
 abbrev pub boards : {B : Type 0} → List (Runner B) → List B
 boards seats = map board_of seats
 
--- of each seat, the replies that were not taken yet
+-- for each seat, its replies that are not in the output yet
 abbrev pub untakens : {B : Type 0} → List (Runner B) → List (List (List ℕ))
 untakens seats = map untaken seats

@@ -1,4 +1,4 @@
-//! A script in memory as its lines, each cut out and looked at once.
+//! Cutting a script in memory into its lines. Each line is looked at once.
 
 ghost use Rattle.std.specs.Prelude.{◌≡◌, ◌≤◌, ◌∷◌, ◌<◌, [], map, position, IfOk, IfSome, IsOk, OnOk, length, vec_capacity};
 ghost use Rattle.std.specs.Option.{option_map};
@@ -12,17 +12,18 @@ use crate::kind::{LineKind, kind_of};
 use memchr::memchr;
 use std::alloc::{AllocError, Global};
 
-/// The bytes of a line and its newline, as scripts have them mostly: shorter ones take memory once more.
+/// The usual number of bytes of a line with its newline. If a script's lines are shorter on average, the list
+/// of lines must grow while it is filled.
 const USUAL_LINE: usize = 16;
 
-/// Where the first newline is.
+/// The position of the first newline.
 fn newline_at(script: &[u8]) -> Option<usize>
     ensures { result ≡ position is_newline script.now }
 {
     memchr(b'\n', script)
 }
 
-/// The first line, and what stands after the newline behind it, if there is one.
+/// The first line, and what follows the newline after it, if there is a newline.
 fn cut_line(script: &[u8]) -> (&[u8], Option<&[u8]>)
     ensures cut { slice_split is_newline script.now
         ≡ result.0.now ∷ later_lines (option_map (λ text. text.now) result.1) }
@@ -34,7 +35,7 @@ fn cut_line(script: &[u8]) -> (&[u8], Option<&[u8]>)
     }
 }
 
-/// What each line of a script is for, without those that are empty: these get no reply.
+/// What each line of a script is for. Empty lines are left out: they get no reply.
 pub fn kinds_in(
     alloc: Global,
     script: &[u8],
@@ -49,7 +50,8 @@ pub fn kinds_in(
     Ok(kinds)
 }
 
-/// Puts the kinds of a script's lines into an empty list. It is not refused if that has room for all.
+/// Puts the kinds of a script's lines into an empty list. It cannot fail if the list has room for all of
+/// them.
 fn push_kinds<'a>(
     kinds: &mut Vec<LineKind<'a>>,
     script: &'a [u8],

@@ -1,4 +1,4 @@
-//! Whose a line is.
+//! What a line is for, and which seat it belongs to.
 
 ghost use Rattle.std.specs.Prelude.{◌≡◌, ◌≤◌, IfSome, length, position};
 ghost use Rattle.kf_script.specs.Requests.{is_space, first_word as word_of, rest as rest_of};
@@ -9,18 +9,19 @@ ghost use Rattle.kf_rounds.specs.KindViews.{kind_view};
 use crate::command::CommandText;
 use kf_script::LINE_LIMIT;
 
-/// What a line is for. A script has one for each of its lines, so it is kept small: 24 bytes.
+/// What a line is for. A script has one of these for each line that is not empty, so it is kept small: 24
+/// bytes.
 #[derive(Clone, Copy)]
 pub enum LineKind<'a> {
-    /// It is too long, or no worker's.
+    /// The line is empty or too long, or begins with `@` and is not a command of a worker.
     Bad,
-    /// `wait`: it ends a round.
+    /// The line is `wait`: it ends a round.
     EndsRound,
-    /// A command of the owner, 0, or of a worker, from 1.
+    /// A command of the owner (seat 0) or of a worker (its number, from 1, is its seat).
     Command { seat: u8, text: CommandText<'a> },
 }
 
-/// A worker's number, 1 to `most`, in decimal without leading zeros.
+/// Parses a worker's number: 1 to `most`, in decimal without leading zeros.
 fn worker(word: &[u8], most: usize) -> Option<u8>
     requires { most ≤ 16 }
     ensures value { result ≡ worker_of most word.now }
@@ -40,7 +41,7 @@ fn worker(word: &[u8], most: usize) -> Option<u8>
     }
 }
 
-/// Where the first space is.
+/// The position of the first space.
 fn space_at(line: &[u8]) -> Option<usize>
     ensures { result ≡ position is_space line.now }
 {

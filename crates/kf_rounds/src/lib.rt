@@ -1,11 +1,12 @@
-//! Rounds: a script run by an owner and its workers, each in a thread and with a board that only it changes.
+//! Rounds: an owner and its workers run a script, each in a thread and with a board that nobody else changes.
 //!
-//! - `run_rounds` takes a script read whole, a `Runner` (board and reply) for the owner and one for each of
-//!   at most 16 workers, and gives the replies in the order of lines. A round is what stands before a `wait`.
-//! - The board is any `Board` of `kf_script` that threads may be lent.
+//! - `run_rounds` takes a whole script, a `Runner` (a board and a reply) for the owner, and one for each of
+//!   at most 16 workers. It returns the replies in the order of the lines. A round ends with a `wait`, or at
+//!   the end of the script.
+//! - A board is any `Board` of `kf_script` that may be lent to a thread.
 //!
-//! A caller shows that there are as many seats as workers and the owner. Each line has one reply, at its
-//! place, which the board of the line's seat gave.
+//! The caller must prove that there is one seat for the owner and one for each worker. Each line that is not
+//! empty has one reply, in its place. The reply to a command comes from the board of the command's seat.
 #![tactic(auto)]
 
 mod command;

@@ -1,4 +1,4 @@
-//! Replies that wait to be put out: those of a seat, and those of a round in the order of its lines.
+//! Replies that are not in the output yet: those of a seat, and those of a round in the order of its lines.
 
 ghost use Rattle.std.specs.Prelude.{◌≡◌, ◌≤◌, ◌<◌, ◌+◌, ◌++◌, ◌∷◌, [], ℕ, List, OnOk, OnErr, map, length};
 ghost use Rattle.kf_rounds.specs.KindViews.{kind_view};
@@ -11,13 +11,13 @@ use kf_script::Board;
 use std::alloc::{AllocError, Global};
 use std::marker::Model;
 
-/// Texts that wait, in the order in which they came: the first is put out next. All lie in one buffer, so
-/// that a text takes no memory by itself.
+/// A queue of texts: the one that was added first is output first. All texts share one buffer, so that no
+/// text needs an allocation for itself.
 #[derive(Drop)]
 pub struct Replies {
     bytes: Vec<u8>,
     lengths: Vec<usize>,
-    // So many bytes and texts at the front have been put out.
+    // How many bytes and how many texts at the front have been output already.
     from: usize,
     taken: usize,
 }
@@ -35,7 +35,7 @@ impl Model for Replies {
 }
 
 impl Replies {
-    /// No text.
+    /// An empty queue.
     pub fn new(alloc: Global) -> Replies
         ensures { result ≡ [] }
     {
@@ -47,7 +47,7 @@ impl Replies {
         }
     }
 
-    /// Forgets all texts, and keeps their memory for others.
+    /// Removes all texts, and keeps their memory for later ones.
     pub fn clear(&mut self)
         ensures { self.new ≡ [] }
     {
@@ -57,7 +57,7 @@ impl Replies {
         self.taken = 0;
     }
 
-    /// Puts a text behind the others. `Err` if there is no memory.
+    /// Adds a text at the end. If there is no memory, it returns `Err` and the queue is as before.
     pub fn add(&mut self, text: &[u8]) -> Result<(), AllocError>
         ensures added { OnOk result (self.new ≡ self.old ++ text.now ∷ []) }
         ensures same { OnErr result (self.new ≡ self.old) }
@@ -68,13 +68,14 @@ impl Replies {
         Ok(())
     }
 
-    /// How many bytes the texts are at most, with a newline each: for one growth that saves later ones. No
-    /// clause rests on it.
+    /// How many bytes the texts have at most, with a newline each. With this number the output can grow once
+    /// instead of many times. No clause depends on it.
     pub fn size(&self) -> usize {
         self.bytes.len().saturating_add(self.lengths.len())
     }
 
-    /// Puts the first text and a newline out. `Err` if there is none, or no memory.
+    /// Moves the first text to the end of `out`, and adds a newline. Returns `Err` if there is no text, or no
+    /// memory.
     pub fn put_next(&mut self, out: &mut Vec<u8>) -> Result<(), AllocError>
         ensures { OnOk result ((reply : List ℕ) × (self.old ≡ reply ∷ self.new)
             × (out.new.items ≡ out.old.items ++ reply ++ 10 ∷ [])) }
@@ -92,7 +93,7 @@ impl Replies {
     }
 }
 
-/// How many bytes the replies of all seats are at most, with a newline each.
+/// How many bytes the replies of all seats have at most, with a newline each.
 fn size_of_all<B: Board>(seats: &[Runner<B>]) -> usize {
     let mut size = 0usize;
     for seat in seats {
@@ -101,7 +102,7 @@ fn size_of_all<B: Board>(seats: &[Runner<B>]) -> usize {
     size
 }
 
-/// Puts a text and a newline out.
+/// Adds a text and a newline to the end of `out`.
 fn put_line(out: &mut Vec<u8>, text: &[u8]) -> Result<(), AllocError>
     ensures { OnOk result (out.new.items ≡ out.old.items ++ text.now ++ 10 ∷ []) }
 {
@@ -110,7 +111,7 @@ fn put_line(out: &mut Vec<u8>, text: &[u8]) -> Result<(), AllocError>
     Ok(())
 }
 
-/// Puts the reply to one line out, and a newline.
+/// Adds the reply to one line, and a newline, to the end of `out`.
 fn put_reply<B: Board>(
     out: &mut Vec<u8>,
     seats: &mut [Runner<B>],
@@ -133,8 +134,8 @@ fn put_reply<B: Board>(
     }
 }
 
-/// Puts the reply to each line out, each with a newline, in the order of the lines. `Err` if a seat has
-/// none for one of its lines, or if there is no memory.
+/// Adds the reply to each line, with a newline, to the end of `out`, in the order of the lines. Returns `Err`
+/// if a seat is missing or has no reply for one of its lines, or if there is no memory.
 pub fn put_replies<B: Board>(
     out: &mut Vec<u8>,
     seats: &mut [Runner<B>],

@@ -22,14 +22,15 @@ fn ends_round(kind: &LineKind<'_>) -> bool
     }
 }
 
-/// Where the first line is that ends a round.
+/// The position of the first line that ends a round.
 fn end_at(kinds: &[LineKind<'_>]) -> Option<usize>
     ensures { result ≡ position (λ kind. is_end (kind_view kind)) kinds.now }
 {
     kinds.iter().position(|kind| ends_round(kind))
 }
 
-/// How many of the lines are the first round: those up to the first that ends one, with it.
+/// The number of lines in the first round: those up to and including the first line that ends a round, or all
+/// of them if no line does.
 fn round_len(kinds: &[LineKind<'_>]) -> usize
     requires some { 0 < length kinds.now }
     ensures some { 0 < result }
@@ -41,7 +42,7 @@ fn round_len(kinds: &[LineKind<'_>]) -> usize
     }
 }
 
-/// The round that begins at a place.
+/// The round that begins at this line.
 pub fn round_at<'b, 'a>(kinds: &'b [LineKind<'a>], from: usize) -> &'b [LineKind<'a>]
     requires some { from < length kinds.now }
     ensures some { 0 < length result.now }
@@ -52,7 +53,7 @@ pub fn round_at<'b, 'a>(kinds: &'b [LineKind<'a>], from: usize) -> &'b [LineKind
     &rest[..round_len(rest)]
 }
 
-/// Whether at most one of the seats has lines, so that no thread is needed.
+/// Whether at most one seat has lines here, so that no other thread is needed.
 fn is_for_one(kinds: &[LineKind<'_>]) -> bool {
     let mut runner = None;
     for kind in kinds {
@@ -66,8 +67,8 @@ fn is_for_one(kinds: &[LineKind<'_>]) -> bool {
     true
 }
 
-/// Each of the seats runs its lines: with more than one thread each in a separate one, if that can be
-/// made.
+/// Each seat runs its lines. If `threads` is more than 1, each seat runs in a separate thread, as far as
+/// threads can be made.
 fn run_each<B: Board + Send, R: Threads + Sync>(
     rt: &R,
     seats: &mut [Runner<B>],
@@ -83,8 +84,8 @@ fn run_each<B: Board + Send, R: Threads + Sync>(
     thread::for_each_mut(rt, seats, threads, &|who, seat| { seat.run(who, kinds) });
 }
 
-/// Each of the seats runs its lines in their order, in a separate thread if one can be made.
-/// If at most one of them has lines, the calling thread runs them.
+/// Each seat runs its lines in their order, in a separate thread if one can be made.
+/// If at most one seat has lines, the calling thread runs them.
 pub fn run_round<B: Board + Send, R: Threads + Sync>(
     rt: &R,
     seats: &mut [Runner<B>],

@@ -14,19 +14,19 @@ use kf_script::Board;
 use std::alloc::{AllocError, Global};
 use std::thread::Threads;
 
-/// Runs a script by its owner, the first of the seats, and its workers, round by round, and returns the
-/// replies to its lines that are not empty, each with a newline, in the order of the lines.
+/// Runs a script, round by round, on the seats of its owner (the first seat) and its workers. Returns the
+/// replies to the lines that are not empty, each with a newline, in the order of the lines.
 ///
-/// A line `@W COMMAND` is worker W's; `wait` ends a round; every other line is the owner's. In a round each
-/// of the seats runs its own lines in the order of the script, in a separate thread (if none can be made, or
-/// at most one of them has lines, the calling thread runs them). A `wait` gets its reply when every line
-/// above has its reply, and no line below begins before. Boards stay in their seats over rounds, and after
-/// the run.
+/// A line `@W COMMAND` belongs to worker W, `wait` ends a round, and every other line belongs to the owner.
+/// In a round each seat runs its own lines in the order of the script, in a separate thread. If no thread can
+/// be made, or at most one seat has lines, the calling thread runs them. A `wait` gets its reply when every
+/// line above it has its reply, and no line below it begins before that. Boards stay in their seats between
+/// rounds, and after the run.
 ///
-/// Conditions: there are at most 16 workers, and a seat for the owner and for each of them.
+/// Conditions: there are at most 16 workers, and one seat for the owner and one for each worker.
 ///
-/// `Err` if memory for the lines or the replies was refused: some rounds may have been run, and their
-/// replies are lost.
+/// Returns `Err` if there is no memory for the lines or the replies. Some rounds may have been run by then,
+/// and their replies are lost.
 pub fn run_rounds<B: Board + Send, R: Threads + Sync>(
     rt: &R,
     alloc: Global,

@@ -1,4 +1,4 @@
-//! One of those who run lines, with its replies of a round.
+//! A seat that runs lines, with its replies of a round.
 
 ghost use Rattle.std.specs.Prelude.{◌≡◌, ◌≤◌, ◌∷◌, ◌++◌, [], ℕ, Bool, List, map, length, OnOk, OnErr};
 ghost use Rattle.kf_script.specs.Lines.{line_limit};
@@ -16,16 +16,17 @@ use std::alloc::{AllocError, Global};
 
 /// The owner (seat 0) or a worker: its board, and its replies to its lines of the round.
 ///
-/// It must be spent, by [`Runner::into_board`], which gives the board back.
+/// It must be passed to [`Runner::into_board`], which returns the board.
 pub struct Runner<B> {
     board: B,
     reply: Reply,
     replies: Replies,
-    // Two cache lines between what this seat writes and what the next one does, whose thread is another.
+    // Two cache lines between what this seat's thread writes and what the next seat's thread writes.
     apart: [u64; 16],
 }
 
-/// Puts the reply to a line into the buffer.
+/// Runs a line on the board, which puts its reply into the buffer. If the line is not a request, the board
+/// does nothing, and the buffer gets the reply to a bad line.
 fn answer_line<B: Board>(board: &mut B, reply: &mut Reply, line: &[u8])
     requires { length line.now ≤ line_limit }
     ensures { (starved : Bool)
@@ -38,7 +39,7 @@ fn answer_line<B: Board>(board: &mut B, reply: &mut Reply, line: &[u8])
 }
 
 impl<B: Board> Runner<B> {
-    /// Runs a line, if it is this seat's.
+    /// Runs a line, if it belongs to this seat, and keeps the reply.
     fn run_line(&mut self, who: usize, kind: &LineKind<'_>) -> Result<(), AllocError>
         ensures ran { OnOk result (Adds B.step (own_command who (kind_view kind.now))
             (board_of self.old) (untaken self.old) (board_of self.new) (untaken self.new)) }
@@ -54,7 +55,7 @@ impl<B: Board> Runner<B> {
         }
     }
 
-    /// Runs its lines in their order. If memory runs out it stops.
+    /// Runs this seat's lines in their order. It stops if memory runs out.
     fn run_own(&mut self, who: usize, kinds: &[LineKind<'_>]) -> Result<(), AllocError>
         requires empty { untaken self.old ≡ [] }
         ensures tells { Tells B.step (board_of self.old) (commands_of who (map kind_view kinds.now))
@@ -66,7 +67,7 @@ impl<B: Board> Runner<B> {
         Ok(())
     }
 
-    /// Runs its lines in their order, and keeps the replies. If memory runs out it stops.
+    /// Runs this seat's lines in their order, and keeps only their replies. It stops if memory runs out.
     pub(crate) fn run(&mut self, who: usize, kinds: &[LineKind<'_>])
         ensures tells { Tells B.step (board_of self.old) (commands_of who (map kind_view kinds.now))
             (untaken self.new) (board_of self.new) }
@@ -77,7 +78,7 @@ impl<B: Board> Runner<B> {
 }
 
 impl<B> Runner<B> {
-    /// A seat that has run no line. `reply` is the memory in which its replies are built.
+    /// A seat that has not run a line yet. `reply` is the buffer in which its replies are built.
     pub fn new(alloc: Global, board: B, reply: Reply) -> Runner<B>
         ensures made { board_of result ≡ board }
         ensures empty { untaken result ≡ [] }
@@ -90,12 +91,13 @@ impl<B> Runner<B> {
         }
     }
 
-    /// How many bytes its replies are at most, with a newline each.
+    /// How many bytes its replies have at most, with a newline each.
     pub(crate) fn reply_size(&self) -> usize {
         self.replies.size()
     }
 
-    /// Puts the next of its replies and a newline out. `Err` if there is none, or no memory.
+    /// Moves the next of its replies to the end of `out`, and adds a newline. Returns `Err` if there is no
+    /// reply, or no memory.
     pub(crate) fn put_next(&mut self, out: &mut Vec<u8>) -> Result<(), AllocError>
         ensures put { OnOk result ((reply : List ℕ) × (untaken self.old ≡ reply ∷ untaken self.new)
             × (out.new.items ≡ out.old.items ++ reply ++ 10 ∷ [])) }
@@ -104,7 +106,7 @@ impl<B> Runner<B> {
         self.replies.put_next(out)
     }
 
-    /// Its board, as the rounds that it ran have left it.
+    /// The board, as the seat's rounds left it.
     pub fn into_board(self) -> B
         ensures { result ≡ board_of self }
     {

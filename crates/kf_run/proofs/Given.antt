@@ -34,13 +34,13 @@ found_among (x ∷ xs) id has = go (bytes_eq x.0.now id) refl has.0 has.1 has.2 
     go false e zero below at later = let hit : bytes_eq x.0.now id ≡ true = at x in cc
     go false e (suc i) below at later = rw e (later (i, omega arith, at))
 
--- the first of some values, and what holds of it
+-- the first of some values, and what holds for it
 first_of_some : (P : Bor (List ℕ) → Type 0) (how : Reading) (vs : List (Bor (List ℕ))) → All P vs → 0 < length vs
     → (v : Bor (List ℕ)) × (option_map (λ s. read_as how s.now) (slice_get vs 0) ≡ Some (read_as how v.now)) × P v
 first_of_some P how [] all some = absurd (omega arith)
 first_of_some P how (v ∷ vs) all some = (v, refl, All-get_or P (v ∷ vs) 0 v (omega arith) all)
 
--- it takes one value that passes this parser, and has a default
+-- the argument takes one value, which passes this parser, and has a default
 pub record TakesOne (a : Arg) (q : ValueParser) : Type 0 where
   pub default : WantsDefault a
   pub set : a.action ≡ Some Set
@@ -55,7 +55,7 @@ accepted a y q t s parser read =
     let as_q : Accepts y.ignore_case q t = subst (λ (w : ValueParser). Accepts y.ignore_case w t) is_q read in
     subst (λ (b : Bool). Accepts b q t) s.ignore_case as_q
 
--- an argument with a default, whose id no other has, has a value after each parse that succeeds
+-- an argument that has a default, and an id that no other has, has a value after each parse that succeeds
 pub default_text : (old : Command) (m : ArgMatches) (p : IsParsedFrom old m) → IsPlain old → (out-Command old).has_globals ≡ false
     → (k : ℕ) (d : Arg) → k < length (args_of old) → (q : ValueParser) → TakesOne (slice_index_or (args_of old) k d) q
     → ((j : ℕ) (e : Arg) → j < length (args_of old)

@@ -39,7 +39,7 @@ no_value : {X : Type 0} (o : Option X) → not (is_some o) ≡ true → o ≡ No
 no_value None e = refl
 no_value (Some x) e = absurd (false≢true e)
 
--- what a simple argument without rules on others leaves out
+-- what a simple argument has if its rules do not involve others
 record IsLone (a : Arg) : Type 0 where
   plain : IsPlainArg a
   default_ifs : a.default_vals_ifs.items ≡ []
@@ -103,7 +103,7 @@ plain_command c e =
     let u = both _ _ t.1 in
     (none_of _ s.0, not_so _ u.0)
 
--- an id that begins with this byte is not empty and not that of an argument that building adds
+-- an id that begins with this byte is not one that building the command adds, and is not empty
 not_auto : (id : List ℕ) (byte : ℕ) → slice_index id 0 ≡ byte → (byte ≡ 104 → ⊥) → (byte ≡ 118 → ⊥) → (id ≡ codes "help") ⊎ (id ≡ codes "version") → ⊥
 not_auto id byte first no_h no_v (inl help) = no_h (sym first ∙ ap (λ t. slice_index t 0) help)
 not_auto id byte first no_h no_v (inr version) = no_v (sym first ∙ ap (λ t. slice_index t 0) version)
@@ -143,7 +143,7 @@ text_at f x a q r there e exact h =
     subst (λ (b : Bool). HasText f r.id b q) (ap (λ (y : Arg). y.ignore_case) there ∙ ap (λ (y : Rule). y.ignore_case) e ∙ exact)
     (subst (λ (i : List ℕ). HasText f i x.ignore_case q) (ap (λ (y : Arg). y.id.now) there ∙ id_of a r e) h)
 
--- after a parse that succeeded both options have a number in their range
+-- after a parse that succeeded, both options have a number in their range
 pub options_given : (c : Command) (m : ArgMatches) → app_of c ≡ program → IsParsedFrom c m
     → HasText (found_of m) (codes "slots") false (Signed (pos 1) (pos most_slots)) × HasText (found_of m) (codes "workers") false (Signed (pos 0) (pos 16))
 options_given c m e p =
@@ -172,7 +172,7 @@ options_given c m e p =
           (not_empty (slice_index_or (args_of c) 1 b).id.now 119 of_workers (omega arith)) (not_auto (slice_index_or (args_of c) 1 b).id.now 119 of_workers (λ bad. absurd (omega arith)) (λ bad. absurd (omega arith)))),
     )
 
--- the program's command is one of which clap's words give the matches and the faults
+-- the program's command is one for which clap's contracts state the matches and the faults
 pub program_is_simple : is_simple program ≡ true
 unfolding clap_on_literals
 program_is_simple = refl

@@ -50,18 +50,19 @@ found_in words = matches_of program words
 unfoldable pub faults_in : List Text → Kinds
 faults_in words = fault_of program words
 
--- the number that a text spells in decimal, if there is a text
+-- there is a text, and this is the number that it spells in decimal, after a leading plus if it has one
 abbrev pub IsNumber : Option Text → ℕ → Type 0
 IsNumber found number =
     (text : Text) × (found ≡ Some text) × (number ≡ digits_value 10 (without_leading_plus text))
 
--- what these arguments ask for: this number of slots and workers, and the script's file, if they name one
+-- these arguments ask for this number of slots, for this number of workers, and for this script's file, if
+-- they name one
 pub record AskFor (words : List Text) (slots workers : ℕ) (script : Option Text) : Type 0 where
   pub slots_are : IsNumber (one_of (codes "slots") (found_in words)) slots
   pub workers_are : IsNumber (one_of (codes "workers") (found_in words)) workers
   pub script_is : script ≡ first_of (codes "SCRIPT") (found_in words)
 
--- what a parse that succeeded has under an id: a text that passed this parser, as the typed getters read it
+-- what a parse that succeeded has under an id: a text that this parser accepts, as the typed getters read it
 abbrev pub HasText : Found → Text → Bool → ValueParser → Type 0
 HasText found id ignore_case parser = (text : Text)
     × (one_text found id ≡ Some (read_as (reading_of parser) text)) × Accepts ignore_case parser text

@@ -43,7 +43,7 @@ const DEFAULT_SLOTS: &str = "1024";
 /// The default number of workers.
 const DEFAULT_WORKERS: &str = "0";
 
-/// The most holds that one node may have.
+/// The greatest number of holds that one node may have.
 const HOLDS: u32 = 65_535;
 
 /// What to run: the limits of the tree, the number of workers beside the owner, and the script's file.
@@ -140,9 +140,10 @@ fn limits_of(slots: u32) -> Limits
     Limits::new(slots, HOLDS).unwrap()
 }
 
-/// What the arguments ask for, the first of which is the program's name.
+/// Reads what the arguments ask for. The first argument is the program's name.
 ///
-/// `Err` if clap refuses the arguments, if they ask for help or the version, or if memory was refused.
+/// It returns `Err` if clap refuses the arguments, if they ask for help or the version, or if memory was
+/// refused.
 pub fn read_words<'a, S: AsStr>(alloc: Global, words: &'a [S]) -> Result<Asked<'a>, Error>
     ensures asked { IfOk result (λ asked. AskFor (map S.text words.entry.now) asked.limits.slots asked.workers
         (option_map (λ script. script.now) asked.script)) }

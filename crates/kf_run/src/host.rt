@@ -1,4 +1,4 @@
-//! The program on a real system: its arguments, the script's file and its streams.
+//! The program on a real system: its arguments, the script's file, and its streams.
 
 ghost use Rattle.std.specs.Prelude.{◌≤◌};
 
@@ -32,9 +32,12 @@ fn open(rt: &HostRuntime, script: Option<&str>) -> io::Result<Either<Stdin, File
     Ok(Right(file))
 }
 
-/// Runs the program. The replies go to standard output, without workers as the script is read; what the
-/// program says of a fault goes to standard error. Returns the status of `run_opened`. An argument that is
-/// not UTF-8, and arguments that clap refuses, give status 2.
+/// Runs the program, and returns its exit status. The replies go to standard output; without workers they go
+/// there as the script is read. What the program says about a fault goes to standard error.
+///
+/// If clap accepts the arguments, the status is that of `run_opened`. If an argument is not UTF-8, or if clap
+/// refuses the arguments, it is 2. If they ask for help or the version, it is 0, or 1 if that could not be
+/// printed. If memory was refused before the script is opened, it is 1.
 ///
 /// `threads` starts the threads of workers and waits for them; in `main` it is the runtime itself.
 pub fn run_host<H: Threads + Wait + Sync>(rt: &HostRuntime, threads: &H) -> u8

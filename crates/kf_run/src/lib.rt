@@ -1,4 +1,5 @@
-//! Scripts on an attribute tree: the program's body, and the back ends that it runs them on.
+//! Runs scripts on an attribute tree: the body of the program `kernfs_run`, and the back ends that it runs
+//! scripts on.
 #![tactic(auto)]
 
 mod arguments;

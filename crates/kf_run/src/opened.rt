@@ -1,4 +1,4 @@
-//! Runs the script if it could be opened, and says why if not.
+//! Runs the script if it could be opened, and otherwise prints why not.
 
 ghost use Rattle.std.specs.Prelude.{◌≡◌, ◌≢◌, ◌≤◌, ◌⊎◌, IsOkAnd, IsErrAnd};
 ghost use Rattle.std.specs.IoError.{error_kind};
@@ -28,7 +28,7 @@ fn reason(kind: ErrorKind) -> &'static [u8] {
     }
 }
 
-/// Says that the script cannot be opened, and why.
+/// Prints that the script cannot be opened, and why.
 fn refuse<F: Write>(fault: &mut F, name: &str, kind: ErrorKind) {
     let _ = write_whole(fault, b"kernfs_run: cannot open the script ");
     let _ = write_whole(fault, name.as_bytes());
@@ -38,8 +38,8 @@ fn refuse<F: Write>(fault: &mut F, name: &str, kind: ErrorKind) {
 }
 
 /// Runs the opened script as the arguments ask, and returns the program's exit status: that of [`run_asked`].
-/// If the script could not be opened, nothing is run, and the status is 2, or if memory was refused, that of
-/// a memory fault.
+/// If the script could not be opened, nothing is run, and the status is 2. But if it could not be opened
+/// because memory was refused, the status is 1, as for every memory fault.
 pub(crate) fn run_opened<H: Threads + Wait + Sync, R: Read, W: Write, F: Write>(
     rt: &H,
     alloc: Global,

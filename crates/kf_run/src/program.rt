@@ -19,7 +19,8 @@ use std::io::{Read, Write};
 use std::sync::Wait;
 use std::thread::Threads;
 
-/// Prints why the arguments are refused, or the help that they ask for. Returns the exit status.
+/// Prints why the arguments are refused, or the help or the version that they ask for. It returns the exit
+/// status.
 pub(crate) fn answer_error<W: Write, F: Write>(
     alloc: Global,
     error: &Error,
@@ -63,8 +64,8 @@ fn fault_line(reason: RunFault) -> &'static [u8]
     }
 }
 
-/// Prints why the run stopped, and returns the exit status for it. If that cannot be written either, only the
-/// status shows it.
+/// Prints why the run stopped, and returns the exit status for that. If the reason cannot be written either,
+/// only the status shows that the run stopped.
 pub(crate) fn tell<F: Write>(reason: RunFault, fault: &mut F) -> u8
     ensures status { result ≡ 1 }
     ensures named { Named reason (F.contents fault.old) (F.contents fault.new) }
@@ -73,7 +74,7 @@ pub(crate) fn tell<F: Write>(reason: RunFault, fault: &mut F) -> u8
     1
 }
 
-/// Runs the reader's script on a new back end.
+/// Runs the reader's script with one caller, on a new back end.
 fn run_limits<R: Read, W: Write>(
     alloc: Global,
     limits: Limits,
@@ -92,7 +93,7 @@ fn run_limits<R: Read, W: Write>(
     run_script(alloc, &mut board, reader, out)
 }
 
-/// Runs the reader's script by one caller, or by its owner and workers if there are any.
+/// Runs the reader's script with one caller or, if there are workers, with its owner and these workers.
 fn run_by<H: Threads + Wait + Sync, R: Read, W: Write>(
     rt: &H,
     alloc: Global,
@@ -116,7 +117,7 @@ fn run_by<H: Threads + Wait + Sync, R: Read, W: Write>(
 }
 
 /// Runs the reader's script as the arguments ask, and returns the program's exit status: 0, or 1 after a
-/// fault, which is named on `fault`.
+/// fault. The fault is named on `fault`.
 pub fn run_asked<H: Threads + Wait + Sync, R: Read, W: Write, F: Write>(
     rt: &H,
     alloc: Global,

@@ -1,4 +1,4 @@
--- Replies that are kept: they are known as the bytes behind those that were written.
+-- Replies that are still kept: their bytes are known to follow those that were written.
 use Rattle.std.proofs.Common.{◌≡◌, ℕ, List, [], ◌∷◌, ◌++◌, filter, Option, Some, None, Result, Ok, Err, OnOk, refl, sym, ap, subst, ◌∙◌, append_assoc, append-nil}
 use Rattle.std.specs.Io.KnownBytes.{Appends, Consumes, IsAtEnd, Keeps, append_known}
 use Rattle.std.proofs.KnownBytes.{Appends-kept, Appends-trans, Appends-nil}
@@ -10,7 +10,7 @@ use Rattle.kf_script.proofs.Running.{lines-here}
 
 -- ---- what a writer has, and what is kept for it
 
--- nothing is kept
+-- if nothing is kept, the known bytes are those that were written
 pub known-nil : (a : Option (List ℕ)) → append_known a [] ≡ a
 known-nil None = refl
 known-nil (Some x) = ap Some (append-nil x)
@@ -21,19 +21,19 @@ grows-none a = ([], Appends-nil a)
 pub grows-trans : (a b c : Option (List ℕ)) → Grows a b → Grows b c → Grows a c
 grows-trans a b c (x, p) (y, q) = (x ++ y, Appends-trans a b c x y p q)
 
--- what a write did
+-- a write, whole or cut short, only adds bytes
 pub writes-grow : {T E : Type 0} (a b : Option (List ℕ)) (result : Result T E) (bytes : List ℕ) → WrittenOrCut a b result bytes → Grows a b
 writes-grow a b (Ok x) bytes written = (bytes, written)
 writes-grow a b (Err x) bytes (part, prefix, written) = (part, written)
 
--- of what is kept the front was written: the bytes known stay the same
+-- if the front of what is kept is written, the known bytes stay the same
 pub same-given : (a b : Option (List ℕ)) (kept left : List ℕ) → GivesOut a b kept left → Keeps (append_known a kept) (append_known b left)
 same-given None b kept left p = tt
 same-given (Some x) None kept left p = absurd p.written
 same-given (Some x) (Some y) kept left p =
     ap (λ l. l ++ left) p.written ∙ append_assoc x p.given left ∙ ap (λ l. x ++ l) (sym p.front)
 
--- and the writer has more than before
+-- if the front of what is kept is written, the writer's bytes only grow
 pub grown-given : (a b : Option (List ℕ)) (kept left : List ℕ) → GivesOut a b kept left → Grows a b
 grown-given a b kept left p = (p.given, p.written)
 
@@ -44,7 +44,7 @@ keeps-none (Some x) (Some y) e = e ∙ sym (append-nil x)
 
 -- ---- a run, while replies are kept
 
--- the same bytes, known again
+-- a run has the same replies if the known bytes are the same
 pub answered-kept : {Board : Type 0} {step : Step Board} {first now : Board} {lines : List (List ℕ)} (old new same : Option (List ℕ))
     → Keeps new same → Answered step first now lines old new → Answered step first now lines old same
 answered-kept old new same keeps p = record {
@@ -65,7 +65,7 @@ running-kept old new same keeps s = record {
   answered = answered-kept old new same keeps s.answered;
 }
 
--- where nothing is kept, it is what was written
+-- if nothing is kept, the known bytes were all written
 pub answered-all : {Board : Type 0} {step : Step Board} {first now : Board} {lines : List (List ℕ)} (old new : Option (List ℕ)) (kept : List ℕ)
     → kept ≡ [] → Answered step first now lines old (append_known new kept) → Answered step first now lines old new
 answered-all {step = step} {first = first} {now = now} {lines = lines} old new kept none p =
@@ -78,7 +78,7 @@ running-known {step = step} {first = first} {now = now} {read = read} {line = li
 
 -- ---- if a run stops
 
--- it may stop after each line
+-- a run may stop after any of its lines
 cut-after : {Board : Type 0} {step : Step Board} {first now : Board} {lines : List (List ℕ)} (later : List (List ℕ)) (old new : Option (List ℕ))
     → Answered step first now lines old new → CutShort step first now (lines ++ later) old new
 cut-after later old new p = record {
@@ -95,7 +95,7 @@ cut-all : {Board : Type 0} {step : Step Board} {first now : Board} {lines : List
 cut-all {step = step} {first = first} {now = now} {lines = lines} old new p =
     subst (λ l. CutShort step first now l old new) (append-nil lines) (cut-after [] old new p)
 
--- and between two reads
+-- a run may stop between two reads
 pub cut-running : {Board : Type 0} {step : Step Board} {first now : Board} {read : List ℕ} {line : Option (List ℕ)} (old new : Option (List ℕ))
     → AnsweredSoFar step first now read line old new → CutShort step first now (lines_of read) old new
 cut-running {step = step} {first = first} {now = now} {read = read} old new s =
@@ -105,7 +105,7 @@ cancel : (s x y : List ℕ) → s ++ x ≡ s ++ y → x ≡ y
 cancel [] x y e = e
 cancel (byte ∷ s) x y e = cancel s x y (let t = e in cc)
 
--- what is kept is not written then: what was written is a prefix all the same
+-- if what is kept is never written, what was written is still a prefix of the replies
 pub cut-reached : {Board : Type 0} {step : Step Board} {first now : Board} {lines : List (List ℕ)} (old new : Option (List ℕ)) (kept : List ℕ)
     → Grows old new → CutShort step first now lines old (append_known new kept) → CutShort step first now lines old new
 cut-reached None new kept grew p = record {
@@ -131,14 +131,14 @@ cut-reached (Some x) (Some y) kept (done, grew) p =
 
 -- ---- the last write of what is kept
 
--- all was written
+-- if the last write succeeded, everything was written
 pub flushed-ok : {Board T E : Type 0} {step : Step Board} {first next : Board} (read : List ℕ) (input left old new : Option (List ℕ)) (kept : List ℕ) (result : Result T E)
     → OnOk result (kept ≡ []) → Answered step first next (lines_of read) old (append_known new kept) → Consumes input left read → IsAtEnd left
     → OnOk result ((read : List ℕ) × Consumes input left read × IsAtEnd left × Answered step first next (lines_of read) old new)
 flushed-ok read input left old new kept (Ok x) none a took end = (read, took, end, answered-all old new kept none a)
 flushed-ok read input left old new kept (Err x) none a took end = tt
 
--- or not all of it
+-- whatever the last write wrote, what was written is a prefix of the replies
 pub flushed-cut : {Board : Type 0} {step : Step Board} {first next : Board} (read : List ℕ) (input left old new : Option (List ℕ)) (kept : List ℕ)
     → Answered step first next (lines_of read) old (append_known new kept) → Grows old new → Consumes input left read
     → (read : List ℕ) × Consumes input left read × CutShort step first next (lines_of read) old new

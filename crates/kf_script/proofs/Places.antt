@@ -17,7 +17,7 @@ refuted : (b : Bool) → (b ≡ true → ⊥) → b ≡ false
 refuted true h = absurd (h refl)
 refuted false h = refl
 
--- the place of the first that passes, or none if that is the length
+-- the place of the first byte that passes, unless the search came to the end
 placed : (p : ℕ → Bool) (bytes : List ℕ) (at : ℕ) → position_or_len p bytes ≡ at → at < length bytes → Some at ≡ position p bytes
 placed p bytes at e inside = grind (arith, nat_tests)
 
@@ -34,7 +34,7 @@ first_place byte bytes (Some at) (first, here) =
     position_or_len_is (λ b. b == byte) bytes at 0 (omega (arith, first.high)) (λ k below. refuted _ (first.before k (omega arith) below)) (λ inside. here)
     ) first.high
 
--- the same, said byte by byte
+-- the same, stated byte by byte
 place_here : (byte : ℕ) (bytes : List ℕ) (at : ℕ) → at < length bytes → ((k : ℕ) → k < at → (get_or bytes k 0 == byte) ≡ false)
     → (get_or bytes at 0 == byte) ≡ true → Some at ≡ position (λ b. b == byte) bytes
 place_here byte bytes at inside before here =
@@ -45,11 +45,11 @@ place_nowhere : (byte : ℕ) (bytes : List ℕ) → ((k : ℕ) → k < length by
 place_nowhere byte bytes none =
     nowhere (λ b. b == byte) bytes (position_or_len_is (λ b. b == byte) bytes (length bytes) 0 (omega arith) none (λ below. absurd (omega arith)))
 
--- how many of the n bytes from a place on stand before the first such byte
+-- how many of the n bytes from a place on come before the first byte of this value
 abbrev before : ℕ → List ℕ → ℕ → ℕ → ℕ
 before byte bytes from n = prefix_len (λ b. not (b == byte)) (chunk from n bytes)
 
--- none of the first n bytes is one, nor any that stands before the first of the n from a place on
+-- none of the first n bytes has this value, nor any byte before the first such one of the n from a place on
 none_before : (byte : ℕ) (bytes : List ℕ) (n from first next : ℕ) → from ≤ n → from + n ≤ length bytes
     → first ≡ before byte bytes 0 n → n ≤ first → next ≡ before byte bytes from n
     → (k : ℕ) → k < from + next → (get_or bytes k 0 == byte) ≡ false
@@ -58,7 +58,7 @@ none_before byte bytes n from first next near room counted all later k below = e
   | inr (is, front) ↦ run_in_chunk_fails (λ b. b == byte) bytes 0 n first 0 (omega arith) counted k (omega arith) (omega arith)
 ]
 
--- it stands among the n from a place on, and not among the first
+-- the byte is among the n from a place on, and not among the first n
 pub in_next : (byte : ℕ) (bytes : List ℕ) (n from first next : ℕ) → from ≤ n → from + n ≤ length bytes
     → first ≡ before byte bytes 0 n → n ≤ first → next ≡ before byte bytes from n → next < n
     → Some (from + next) ≡ position (λ b. b == byte) bytes
@@ -66,20 +66,20 @@ in_next byte bytes n from first next near room counted all later short =
     place_here byte bytes (from + next) (omega arith) (none_before byte bytes n from first next near room counted all later)
     (run_in_chunk_stops (λ b. b == byte) bytes from n next 0 room later short)
 
--- it stands in neither, and these are all
+-- the byte is in neither part, and the two parts are all
 pub in_neither : (byte : ℕ) (bytes : List ℕ) (n from first next : ℕ) → from ≤ n → from + n ≡ length bytes
     → first ≡ before byte bytes 0 n → n ≤ first → next ≡ before byte bytes from n → n ≤ next
     → None ≡ position (λ b. b == byte) bytes
 in_neither byte bytes n from first next near whole counted all later over =
     place_nowhere byte bytes (λ k below. none_before byte bytes n from first next near (omega arith) counted all later k (omega arith))
 
--- ---- what stands before the place, at it and after it
+-- ---- what comes before the place, at it and after it
 
 none_of : (b : Bool) (n : ℕ) → None ≡ cond b (Some n) None → b ≡ false
 none_of true n e = absurd (cc)
 none_of false n e = refl
 
--- if none passes, the first place that may is past the end
+-- if no byte passes, the search comes to the end
 pub far : (p : ℕ → Bool) (bytes : List ℕ) → None ≡ position p bytes → length bytes ≤ position_or_len p bytes
 far p bytes e = ltb-false _ _ (none_of _ (position_or_len p bytes) e)
 
@@ -101,7 +101,7 @@ same_byte a b e = elim (eqb_tells a b) [
   | inr (is, other) ↦ absurd (cc)
 ]
 
--- what stands before the first such byte, that byte, and what follows it
+-- the bytes are those before the first such byte, that byte, and those that follow it
 pub around : (byte : ℕ) (bytes : List ℕ) (at : ℕ) → Some at ≡ position (λ b. b == byte) bytes → bytes ≡ (take at bytes ++ byte ∷ []) ++ drop (at + 1) bytes
 around byte bytes at e =
     let (inside, here, before) = position-Some (λ b. b == byte) bytes at 0 (sym e) in

@@ -1,4 +1,4 @@
--- Lemmas on lines, replies and how far a run has come.
+-- Lemmas about lines, replies and how far a run has come.
 use Rattle.std.proofs.Common.{◌≡◌, ℕ, ◌+◌, ◌≤◌, Bool, All, false, List, [], ◌∷◌, ◌++◌, length, map, filter, Option, Some, None, Result, Ok, Err, MatchResult, arith, refl, sym, ap, subst, ◌∙◌, append_assoc, append-nil, rules, inl, inr}
 use Rattle.std.specs.List.{slice_split}
 use Rattle.std.specs.Option.{option_and_then}
@@ -200,7 +200,7 @@ ended-cut {read = read} s more =
     ∙ ap (λ l. s.ended ++ l) (slice_split_at is_newline s.pending 10 more s.unended refl)
     ∙ sym (append_assoc s.ended (s.pending ∷ []) (slice_split is_newline more))
 
--- a newline came, and its line got its reply or was stopped by a fault
+-- a newline came, and its line got its reply, or a fault stopped the run
 pub running-newline : {Board T E : Type 0} {step : Step Board} {first now : Board} (next : Board) {read : List ℕ} {line old new : Option (List ℕ)} (last after : Option (List ℕ)) (result : Result T E)
     → (s : AnsweredSoFar step first now read line old new) → AnsweredOrCut step now next (ended_line s.pending) new after result → last ≡ Some []
     → MatchResult result (λ _. AnsweredSoFar step first next (read ++ 10 ∷ []) last old after) (λ _. Stopped step first next (read ++ 10 ∷ []) old after)
@@ -217,7 +217,7 @@ running-newline {step = step} {first = first} next {read = read} {old = old} las
     ap (filter has_bytes) (ended-cut s more) ∙ filter-append (s.ended ++ s.pending ∷ []) (slice_split is_newline more) ∙ ap (λ l. l ++ lines_of more) (filter-append s.ended (s.pending ∷ [])) in
     subst (λ l. CutShort step first next l old after) (sym whole) (cut-more (lines_of more) (answered-cut s.answered a))
 
--- bytes and a newline came, and the line that they end got its reply or was stopped by a fault
+-- bytes and a newline came, and the line that they end got its reply, or a fault stopped the run
 pub running-line : {Board T E : Type 0} {step : Step Board} {first now : Board} (next : Board) {read : List ℕ} {line old new : Option (List ℕ)} (bytes : List ℕ) (last after : Option (List ℕ)) (result : Result T E)
     → AnsweredSoFar step first now read line old new → All (λ byte. is_newline byte ≡ false) bytes
     → ((whole : List ℕ) → option_and_then (λ l. kept_line (l ++ bytes)) line ≡ kept_line whole → AnsweredOrCut step now next (ended_line whole) new after result) → last ≡ Some []
@@ -266,7 +266,7 @@ pub end-answered : {Board : Type 0} {step : Step Board} {first now : Board} (nex
 end-answered {step = step} {first = first} next old new after s a =
     subst (λ l. Answered step first next l old after) (sym (lines-here s)) (answered-then s.answered a)
 
--- or stopped by a fault
+-- the input ended, and a fault stopped the run at its last line
 pub end-stopped : {Board : Type 0} {step : Step Board} {first now : Board} (next : Board) {read : List ℕ} {line : Option (List ℕ)} (old new after : Option (List ℕ))
     → (s : AnsweredSoFar step first now read line old new) → CutShort step now next (ended_line s.pending) new after → CutShort step first next (lines_of read) old after
 end-stopped {step = step} {first = first} next old new after s a =

@@ -6,26 +6,26 @@ use Rattle.std.specs.List.{slice_split}
 abbrev pub is_newline : ℕ → Bool
 is_newline byte = byte == 10
 
--- a line without bytes gets no reply
+-- the line has bytes; a line without bytes gets no reply
 abbrev pub has_bytes : List ℕ → Bool
 has_bytes [] = false
 has_bytes (byte ∷ line) = true
 
--- the lines of a script: what stands between its newlines, if that is not empty
+-- the lines of a script: the pieces into which its newlines split it, except empty ones
 abbrev pub lines_of : List ℕ → List (List ℕ)
 lines_of script = filter has_bytes (slice_split is_newline script)
 
--- all but the last
+-- all lines of the list except the last
 abbrev pub front : List (List ℕ) → List (List ℕ)
 front [] = []
 front (line ∷ []) = []
 front (line ∷ next ∷ lines) = line ∷ front (next ∷ lines)
 
--- the lines that have ended: what stands before each newline, if that is not empty
+-- the lines that have ended: the pieces that a newline ends, except empty ones
 abbrev pub ended_lines_of : List ℕ → List (List ℕ)
 ended_lines_of script = filter has_bytes (front (slice_split is_newline script))
 
--- the longest line that is read as a command, in bytes and without its newline
+-- the length of the longest line that is read as a command, in bytes and without its newline
 abbrev pub line_limit : ℕ
 line_limit = 8192
 

@@ -7,7 +7,7 @@ use Rattle.kf_script.specs.Lines.{has_bytes, line_limit}
 use Rattle.kf_script.specs.declared.request.Request.{Request}
 use Rattle.kf_script.specs.declared.request.Request.TheVariants.{MakeDirectory, MakeFile, MakeLink, Activate, ListNames, Stat, ReadLink, Move, Remove, OpenFile, ReadFile, WriteFile, PollFile, Notify, CloseFile, Hide, Show, CountCommands, Compact, Plug, Unplug, Wait}
 
--- a request, by the bytes of its words; a file is the place of its letter in the alphabet, from 0
+-- a request, with the bytes of its words; a file is the place of its letter in the alphabet, from 0
 pub data RequestWords : Type 0 where
   make_directory : (path : List ℕ) (is_live : Bool) → RequestWords
   make_file : (path : List ℕ) (mode : ℕ) (text : List ℕ) → RequestWords
@@ -32,7 +32,7 @@ pub data RequestWords : Type 0 where
   unplug : (name : List ℕ) → RequestWords
   wait : RequestWords
 
--- the words of a request, without the place in memory where they lie
+-- a request with the bytes of its words, whatever their place in memory
 abbrev pub request_words : Request → RequestWords
 request_words (MakeDirectory path is_live) = make_directory path.now is_live
 request_words (MakeFile path mode text) = make_file path.now mode text.now
@@ -57,7 +57,8 @@ request_words (Plug name text) = plug name.now text.now
 request_words (Unplug name) = unplug name.now
 request_words Wait = wait
 
--- the numbers of a request are in range: a mode has nine bits, and there are 26 files
+-- the numbers of a request are in range: a mode is at most 511 (nine bits), a file below 26, an offset at
+-- most 2^32 - 1, and the length of a read at most 65,535
 abbrev pub IsInRange : RequestWords → Type 0
 IsInRange (make_file path mode text) = mode ≤ 511
 IsInRange (open_file file path reads writes) = file < 26
@@ -69,27 +70,27 @@ IsInRange _ = ⊤
 
 -- ---- words
 
--- the byte that sets words apart
+-- the byte that separates words
 abbrev pub is_space : ℕ → Bool
 is_space byte = byte == 32
 
--- the word before the first space, and the text after that space (empty if there is none)
+-- the word before the first space; the whole line if it has no space
 abbrev pub first_word : List ℕ → List ℕ
 first_word line = before_first is_space line
 
--- what stands behind the first space of a line
+-- the text after the first space of a line; empty if it has no space
 abbrev pub rest : List ℕ → List ℕ
 rest line = after_first is_space line
 
--- what stands behind the first word: nothing, or what follows its space
+-- what follows the first word: nothing if the line has no space, else the text after its first space
 abbrev pub behind : List ℕ → Option (List ℕ)
 behind line = option_map (λ at. drop (at + 1) line) (position is_space line)
 
--- the next word of what stands behind a word, and what stands behind that one
+-- the next word of what is left of a line, if anything is left
 abbrev pub next_word : Option (List ℕ) → Option (List ℕ)
 next_word later = option_map first_word later
 
--- what stands behind the next word, if there is one
+-- what follows the next word, if there is a next word and anything follows it
 abbrev pub behind_next : Option (List ℕ) → Option (List ℕ)
 behind_next later = option_and_then behind later
 
@@ -113,18 +114,19 @@ mode_of _ = None
 abbrev pub is_digit : ℕ → Bool
 is_digit byte = nat_le 48 byte && nat_le byte 57
 
--- the number that digits spell
+-- the number that these digits spell in decimal
 abbrev pub number_of : List ℕ → ℕ
 number_of digits = fold (λ number digit. number * 10 + (digit - 48)) 0 digits
 
--- a number of at least one digit and at most this many, and at most this
+-- the number that a word spells, if the word is one to `most` decimal digits and the number is at most
+-- `greatest`
 abbrev pub decimal_of : ℕ → ℕ → List ℕ → Option ℕ
 decimal_of most greatest word =
     if has_bytes word && nat_le (length word) most && list_all is_digit word && nat_le
     (number_of word) greatest
     then Some (number_of word) else None
 
--- the letter of a file
+-- the file that a letter from a to z names
 abbrev pub file_of : List ℕ → Option ℕ
 file_of (letter ∷ []) = if nat_le 97 letter && nat_le letter 122 then Some (letter - 97) else None
 file_of _ = None
@@ -137,7 +139,7 @@ offset_of word = decimal_of 10 4294967295 word
 abbrev pub length_of : List ℕ → Option ℕ
 length_of word = decimal_of 5 65535 word
 
--- what a file is opened for: reading, writing
+-- whether a file is opened for reading, and whether for writing, as `r`, `w` or `rw` says
 abbrev pub want_of : List ℕ → Option (Bool × Bool)
 want_of word =
     if bytes_eq word (codes "r") then Some (true, false)
@@ -145,56 +147,58 @@ want_of word =
     else (if bytes_eq word (codes "rw") then Some (true, true)
     else None))
 
--- ---- what stands behind a command
+-- ---- what follows a command
 
--- a request, made of what stands behind its command, if that is as it should be
+-- a parser: it makes a request of what follows a command, if that is as it should be
 abbrev pub Parser : Type 0
 Parser = Option (List ℕ) → Option RequestWords
 
--- a word of this kind comes next, and then what follows it
+-- the parser of a word of this kind and of what follows it; from the value of the word it gets the parser of
+-- the rest
 abbrev pub word : {Value : Type 0} → (List ℕ → Option Value) → (Value → Parser) → Parser
 word kind following later =
     option_and_then (λ value. following value (behind_next later)) (option_and_then kind (next_word later))
 
--- nothing more comes
+-- nothing is left
 abbrev pub is_over : Option (List ℕ) → Bool
 is_over None = true
 is_over (Some later) = false
 
--- this request, if no word is left
+-- this request, if nothing is left
 abbrev pub ends : RequestWords → Parser
 ends request later = if is_over later then Some request else None
 
--- nothing more comes, or only this word, which the request then notes
+-- whether this word is left: true if exactly it is left, false if nothing is left, none if something else is
+-- left
 abbrev pub last_word : List ℕ → Option (List ℕ) → Option Bool
 last_word last None = Some false
 last_word last (Some later) = if bytes_eq later last then Some true else None
 
--- a request with or without this last word
+-- the request with or without this last word; none if something else is left
 abbrev pub ends_or : List ℕ → (Bool → RequestWords) → Parser
 ends_or last request later = option_map request (last_word last later)
 
--- all that comes, its spaces too, is a text; it is empty where nothing comes
+-- all that is left, including spaces; empty if nothing is left
 abbrev pub whole_text : Option (List ℕ) → List ℕ
 whole_text None = []
 whole_text (Some later) = later
 
--- a request with all that is left of the line for its text
+-- a request whose text is all that is left of the line
 abbrev pub text : (List ℕ → RequestWords) → Parser
 text request later = Some (request (whole_text later))
 
 -- ---- the grammar
 
--- a row: the word of a command, and what stands behind it
+-- a row of the grammar: the word of a command, and the parser of what follows it
 pub record Row : Type 0 where
   pub command : List ℕ
   pub reads : Parser
 
--- a row of the grammar: a command, and how the words behind it are read
+-- the row of this command, with this parser of what follows it
 abbrev pub row : List ℕ → Parser → Row
 row command reads = record { command = command; reads = reads }
 
--- one row for each command
+-- the grammar: one row for each command
 abbrev pub rows : List Row
 rows =
     row (codes "mkdir") (word path_of
@@ -227,16 +231,17 @@ rows =
     ∷ row (codes "wait") (ends wait)
     ∷ []
 
--- what the row of a command reads, of such rows
+-- the request that the first of these rows with this command makes; none if it makes none, or if no row has
+-- this command
 abbrev pub row_of : List Row → List ℕ → Parser
 row_of [] command later = None
 row_of (row ∷ rows) command later =
     if bytes_eq command row.command then row.reads later else row_of rows command later
 
--- what this command makes of what stands behind it, if it is one
+-- the request that this command makes of what follows it, if it makes one
 abbrev pub reads_of : List ℕ → Parser
 reads_of command later = row_of rows command later
 
--- the request of a line, if it makes one
+-- the request of a line, if the line is not too long and makes one
 abbrev pub request_of : List ℕ → Option RequestWords
 request_of line = if nat_le (length line) line_limit then reads_of (first_word line) (behind line) else None

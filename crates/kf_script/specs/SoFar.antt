@@ -5,8 +5,8 @@ use Rattle.kf_script.specs.Lines.{is_newline, has_bytes, lines_of, kept_line}
 use Rattle.kf_script.specs.Answers.{Step}
 use Rattle.kf_script.specs.Progress.{Answered, CutShort}
 
--- The bytes `read` came so far. The lines that ended have their replies, and the line buffer keeps the
--- pending one.
+-- the bytes `read` have come so far. The lines that have ended have their replies, and the line buffer keeps
+-- the line that has not ended, `pending`, unless this line is too long
 pub record AnsweredSoFar {Board : Type 0} (step : Step Board) (first now : Board) (read : List ℕ)
     (line old new : Option (List ℕ)) : Type 0 where
   pub ended : List (List ℕ)
@@ -17,19 +17,21 @@ pub record AnsweredSoFar {Board : Type 0} (step : Step Board) (first now : Board
   pub buffered : line ≡ kept_line pending
   pub answered : Answered step first now (filter has_bytes ended) old new
 
--- A write failed after the bytes `read`, and whatever follows them gets no reply.
+-- a write failed after the bytes `read`. Whatever bytes follow, the replies to the lines of the whole script
+-- are cut short
 abbrev pub Stopped : {Board : Type 0} → Step Board → Board → Board → List ℕ → Option (List ℕ)
     → Option (List ℕ) → Type 0
 Stopped step first now read old new =
     (more : List ℕ) → CutShort step first now (lines_of (read ++ more)) old new
 
--- The lines got their replies, or a write failed.
+-- if the result is `Ok`, the lines got their replies; otherwise a write failed, and their replies are cut
+-- short
 abbrev pub AnsweredOrCut : {Board T E : Type 0} → Step Board → Board → Board → List (List ℕ) → Option (List ℕ)
     → Option (List ℕ) → Result T E → Type 0
 AnsweredOrCut step first now lines old new result =
     MatchResult result (λ _. Answered step first now lines old new)
     (λ _. CutShort step first now lines old new)
 
--- a line that has ended, as the lines that get a reply: itself, or none if it is empty
+-- the lines that get a reply when this line ends: the line itself, or none if it is empty
 abbrev pub ended_line : List ℕ → List (List ℕ)
 ended_line line = filter has_bytes (line ∷ [])

@@ -1,8 +1,8 @@
-//! Bytes put behind others, if there is room for them.
+//! Appends bytes to a text that has room for them.
 
 ghost use Rattle.std.specs.Prelude.{◌≡◌, ◌≤◌, ◌+◌, ◌++◌, length, vec_len, vec_capacity};
 
-/// Puts the bytes behind those of the text, one by one. Inlined, if they are known, it writes a few
+/// Appends the bytes to the text, one by one. It is inlined, so if the bytes are constants, it writes a few
 /// numbers.
 ///
 /// Condition: the text has room for the bytes.
@@ -18,8 +18,8 @@ pub fn push_each(text: &mut Vec<u8>, bytes: &[u8])
     }
 }
 
-/// Puts the bytes behind those of the text. A few are taken out before they are put, each in a register: that
-/// costs less than the calls that many take.
+/// Appends the bytes to the text. Up to eight bytes are first loaded, each into a register, and then
+/// appended: that costs less than the calls that more bytes take.
 ///
 /// Condition: the text has room for the bytes.
 #[inline(always)]

@@ -6,7 +6,7 @@ use thiserror::Error;
 /// Why a run of a script stopped.
 #[derive(Clone, Copy, Debug, Drop, PartialEq, Eq, Error)]
 pub enum RunFault {
-    /// A call of read failed, or there were too many.
+    /// A call of read failed, too many calls were made, or the script was too long to be read whole.
     Read,
     /// A call of write failed, or took no byte.
     Write,

@@ -14,7 +14,8 @@ use super::rows::{
 use super::spelling::spells;
 use super::words::LineWords;
 
-/// What a command makes of the words behind it: the rows of the grammar, in the order of the definition.
+/// The request that a command makes of the words after it. The rows of the grammar come in the order of the
+/// definition `rows`.
 fn request<'a, B>(command: &[u8], words: LineWords<'a>) -> Option<Request<'a>>
     ensures value { option_map request_words result ≡ reads_of command.now words.entry }
     ensures range { IfSome result (λ request. IsInRange (request_words request)) }
@@ -29,7 +30,8 @@ fn request<'a, B>(command: &[u8], words: LineWords<'a>) -> Option<Request<'a>>
     }
 }
 
-/// The same, from the row of `stat` on. (Rows stand in groups: the proof of a match grows with their square.)
+/// The same, from the row of `stat` on. (The rows are split into groups, because the proof of a match grows
+/// with the square of the number of its rows.)
 #[inline(always)]
 fn request_of_a_node<'a, B>(command: &[u8], words: LineWords<'a>) -> Option<Request<'a>>
     ensures value { option_map request_words result ≡ row_of (drop 5 rows) command.now words.entry }
@@ -79,11 +81,11 @@ fn request_of_the_rest<'a, B>(command: &[u8], words: LineWords<'a>) -> Option<Re
     }
 }
 
-/// The same as [`parse`], put into a place that the caller lends: what a function returns is copied once
-/// more, and the board would wait for that copy.
+/// Like [`parse`], but puts the request into a place that the caller lends. A request that is returned would
+/// be copied once more, and the board would wait for that copy.
 ///
-/// `B` is the board that asks, or `()`. A board's lines thus have a separate parse, which is called in one
-/// place, and the compiler puts it there.
+/// `B` is the board that asks, or `()`. So each board has its own instance of this function, which is called
+/// in only one place, and the compiler inlines it there.
 pub(crate) fn parse_into<'a, B>(line: &'a [u8], asked: &mut Option<Request<'a>>)
     requires { length line.now ≤ line_limit }
     ensures value { option_map request_words asked.new ≡ request_of line.now }
@@ -96,7 +98,8 @@ pub(crate) fn parse_into<'a, B>(line: &'a [u8], asked: &mut Option<Request<'a>>)
     };
 }
 
-/// What a line of at most 8,192 bytes asks for, or nothing if it matches no row of the grammar.
+/// Parses a line of at most 8,192 bytes into its request. It returns `None` if the line matches no row of the
+/// grammar.
 ///
 /// Condition: the line has at most 8,192 bytes.
 pub fn parse(line: &[u8]) -> Option<Request<'_>>

@@ -1,4 +1,5 @@
-//! The kinds of words.
+//! Reads each kind of word: a path, a mode, an offset, a length, a file's letter, and what a file is opened
+//! for.
 
 ghost use Rattle.std.specs.Prelude.{◌≡◌, ◌≤◌, ◌<◌, ◌-◌, Some, None, true, nat_le, IfSome, if◌then◌else◌};
 ghost use Rattle.std.specs.Option.{option_map};
@@ -7,7 +8,7 @@ ghost use Rattle.kf_script.specs.Requests.{is_octal, is_digit, path_of, mode_of,
 
 use super::spelling::spells;
 
-/// A path or a name, which is any word that is not empty.
+/// A path or a name: any word that is not empty.
 pub fn path_in(word: &[u8]) -> Option<&[u8]>
     ensures { option_map (λ path. path.now) result ≡ path_of word.now }
 {
@@ -27,7 +28,7 @@ fn octal_digit(byte: u8) -> Option<u16>
     Some(u16::from(byte - b'0'))
 }
 
-/// Three octal digits.
+/// A mode: exactly three octal digits.
 pub fn mode_in(word: &[u8]) -> Option<u16>
     ensures value { result ≡ mode_of word.now }
     ensures range { IfSome result (λ mode. mode ≤ 511) }
@@ -44,7 +45,7 @@ fn has_digits_alone(word: &[u8]) -> bool
     word.iter().all(|byte| byte.is_ascii_digit())
 }
 
-/// The number that decimal digits spell, if it is at most the greatest.
+/// The number that these decimal digits spell, if it is at most `greatest`.
 fn number_up_to(digits: &[u8], greatest: u64) -> Option<u64>
     requires digits { list_all is_digit digits.now ≡ true }
     requires small { greatest ≤ 4294967295 }
@@ -61,7 +62,8 @@ fn number_up_to(digits: &[u8], greatest: u64) -> Option<u64>
     Some(number)
 }
 
-/// One to this many decimal digits, which spell at most the greatest number.
+/// The number that a word spells, if the word is 1 to `most` decimal digits and the number is at most
+/// `greatest`.
 fn decimal(word: &[u8], most: usize, greatest: u64) -> Option<u64>
     requires { greatest ≤ 4294967295 }
     ensures value { result ≡ decimal_of most greatest word.now }
@@ -89,7 +91,7 @@ pub fn length_in(word: &[u8]) -> Option<u64>
     decimal(word, 5, 65_535)
 }
 
-/// The file of a letter.
+/// The file that a letter names.
 pub fn file_in(word: &[u8]) -> Option<usize>
     ensures value { result ≡ file_of word.now }
     ensures range { IfSome result (λ file. file < 26) }
@@ -103,7 +105,7 @@ pub fn file_in(word: &[u8]) -> Option<usize>
     Some(usize::from(*letter - b'a'))
 }
 
-/// What a file is opened for: reading, writing.
+/// Whether a file is opened for reading, and whether for writing.
 #[inline(always)]
 pub fn want_in(word: &[u8]) -> Option<(bool, bool)>
     ensures { result ≡ want_of word.now }

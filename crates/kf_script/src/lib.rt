@@ -1,15 +1,15 @@
-//! Scripts: lines in, replies out, over any board that replies to requests.
+//! Runs scripts: reads their lines, has a board carry out the requests, and writes the replies.
 //!
-//! - `run_script` reads lines, makes a `Request` of each (`parse`), asks the `Board` for a `Reply`, and
-//!   writes it. Replies are written before it waits for more of the script; the first fault of a read, a
-//!   write or memory ends the run (`RunFault`).
-//! - A `Board` is yours: its relation says what a request makes of it and what is replied,
-//! and it replies by `Reply`'s `set_done`, `set_key`, `set_refusal` and the like. `use_tree/src/board.rt` is
-//! one.
-//! - Lines have at most 8,192 bytes (`LINE_LIMIT`).
+//! - `run_script` reads lines, parses each into a `Request` (`parse`), has the `Board` fill in the `Reply`,
+//!   and writes that. The replies are written before it waits for more of the script. The run ends at the
+//!   first fault of a read, a write or memory (`RunFault`).
+//! - You write the `Board`. Its relation says what a request may do to it and what it may reply. It fills in
+//!   a `Reply` with `set_done`, `set_key`, `set_refusal` and the other functions of that type.
+//!   `use_tree/src/board.rt` is an example.
+//! - A line may have at most 8,192 bytes (`LINE_LIMIT`).
 //!
-//! If you write a board, you prove its relation for each reply; `run_script` then says the bytes of the whole
-//! output.
+//! If you write a board, you prove its relation for each reply. The contract of `run_script` then says what
+//! the whole output is, byte by byte.
 #![tactic(auto)]
 
 mod behind;

@@ -7,10 +7,10 @@ ghost use Rattle.kf_script.specs.Lines.{kept_line, line_limit};
 use std::alloc::{AllocError, Global};
 use std::marker::Model;
 
-/// The longest line that is read as a command, without its newline.
+/// The length of the longest line that is read as a command, in bytes and without its newline.
 pub const LINE_LIMIT: usize = 8192;
 
-/// The line that is being read: its bytes, as long as they are at most the limit.
+/// The line that is being read: its bytes, unless there are more than the limit.
 #[derive(Drop)]
 pub struct LineBuffer {
     bytes: Vec<u8>,
@@ -55,7 +55,7 @@ impl LineBuffer {
         !self.is_too_long && self.bytes.is_empty()
     }
 
-    /// Adds bytes. A line of more than the limit is too long, whatever follows.
+    /// Appends bytes. Once the line has more bytes than the limit it is too long, whatever follows.
     pub fn extend(&mut self, bytes: &[u8])
         ensures { self.new ≡ option_and_then (λ line. kept_line (line ++ bytes.now)) self.old }
     {

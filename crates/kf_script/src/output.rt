@@ -1,5 +1,5 @@
-//! The script's output: the one way to the writer, and none after a fault. Replies are kept until more of the
-//! script is to be read, or until no other would find room.
+//! The output of a script: the only way to the writer, which is not used again after a fault. Replies are
+//! kept until more of the script is read, or until the next reply does not fit.
 
 ghost use Rattle.std.specs.Prelude.{◌≡◌, ◌≤◌, ◌+◌, ◌-◌, ◌<◌, ◌⊎◌, [], true, false, length, take, drop, OnOk, OnErr, IfErr, IsErrOf, vec_len, vec_capacity};
 ghost use Rattle.std.specs.Io.KnownBytes.{Appends, append_known};
@@ -9,11 +9,11 @@ use super::behind::push_all;
 use super::fault::RunFault;
 use std::io::Write;
 
-/// The most bytes of replies that are kept: as many as a pipe takes whole.
+/// At most this many bytes of replies are kept: as many as a pipe takes in one piece.
 pub const KEPT_LIMIT: usize = 4096;
 
-/// Writes the bytes, and returns how many of them were written: all, or fewer after a call that failed or
-/// took no byte, which is not tried again.
+/// Writes the bytes, and returns how many of them were written. These are fewer than all if a call fails or
+/// takes no byte: such a call is not tried again.
 fn give<W: Write>(writer: &mut W, bytes: &[u8]) -> usize
     ensures inside { result ≤ length bytes.now }
     ensures written { Appends (W.contents writer.old) (W.contents writer.new) (take result bytes.now) }
@@ -28,7 +28,8 @@ fn give<W: Write>(writer: &mut W, bytes: &[u8]) -> usize
     given
 }
 
-/// Writes all of the bytes. A call that fails, or that takes no byte, is a fault, and is not tried again.
+/// Writes all of the bytes. A call of write that fails, or that takes no byte, is a fault, and is not tried
+/// again.
 pub fn write_whole<W: Write>(writer: &mut W, bytes: &[u8]) -> Result<(), RunFault>
     ensures written { WrittenOrCut (W.contents writer.old) (W.contents writer.new) result bytes.now }
     ensures fault { IfErr result (λ fault. fault ≡ RunFault.Write) }
@@ -39,7 +40,7 @@ pub fn write_whole<W: Write>(writer: &mut W, bytes: &[u8]) -> Result<(), RunFaul
     Ok(())
 }
 
-/// Takes this many bytes away from the front.
+/// Removes this many bytes from the front.
 fn remove_front(kept: &mut Vec<u8>, count: usize)
     requires { count ≤ vec_len kept.old }
     ensures items { kept.new.items ≡ drop count kept.old.items }
@@ -51,7 +52,7 @@ fn remove_front(kept: &mut Vec<u8>, count: usize)
     kept.truncate(len - count);
 }
 
-/// Writes what is kept. What a fault leaves unwritten is kept.
+/// Writes the bytes that are kept. After a fault, those that were not written are still kept.
 fn write_kept<W: Write>(writer: &mut W, kept: &mut Vec<u8>) -> Result<(), RunFault>
     ensures given { GivesOut (W.contents writer.old) (W.contents writer.new) kept.old.items kept.new.items }
     ensures empty { OnOk result (kept.new.items ≡ []) }
@@ -68,8 +69,8 @@ fn write_kept<W: Write>(writer: &mut W, kept: &mut Vec<u8>) -> Result<(), RunFau
     }
 }
 
-/// The writer of one run, and the replies that it has not been given yet. While this has it nothing else can
-/// write, and after a write that failed there is none.
+/// The writer of one run, and the replies that are not written yet. While this has the writer, nothing else
+/// can write, and no write follows one that failed.
 #[derive(Drop)]
 pub struct Output<'a, W> {
     writer: &'a mut W,
@@ -80,9 +81,9 @@ pub struct Output<'a, W> {
 }
 
 impl<'a, W: Write> Output<'a, W> {
-    /// Takes the writer for one run, and memory for what is kept.
+    /// Borrows the writer for one run, and a buffer for the bytes that are kept.
     ///
-    /// Conditions: nothing is kept yet, and there is room to keep 4,096 bytes.
+    /// Conditions: the buffer is empty, and has room for 4,096 bytes.
     pub fn new(writer: &'a mut W, kept: &'a mut Vec<u8>) -> Output<'a, W>
         requires none { kept.old.items ≡ [] }
         requires room { 4096 ≤ vec_capacity kept.old }
@@ -98,8 +99,8 @@ impl<'a, W: Write> Output<'a, W> {
         }
     }
 
-    /// Writes what is kept, in as few calls of write as the writer takes. After a fault it writes nothing
-    /// more.
+    /// Writes the bytes that are kept, in as few calls of write as the writer allows. Once a write has
+    /// failed, it writes nothing.
     pub fn flush(&mut self) -> Result<(), RunFault>
         ensures lent { self.new.writer.ghost_name ≡ self.old.writer.ghost_name }
         ensures given { GivesOut (W.contents self.old.writer.now) (W.contents self.new.writer.now)
@@ -118,7 +119,7 @@ impl<'a, W: Write> Output<'a, W> {
         result
     }
 
-    /// Whether this many bytes more are kept: there is room for them, and no write has failed.
+    /// Whether this many more bytes can be kept: there is room for them, and no write has failed.
     #[inline(always)]
     fn has_room(&self, count: usize) -> bool
         ensures fits { result ≡ true → vec_len self.now.kept.now + count ≤ kept_limit }
@@ -129,8 +130,8 @@ impl<'a, W: Write> Output<'a, W> {
         !self.has_failed && count <= KEPT_LIMIT - self.kept.len()
     }
 
-    /// Keeps the bytes behind what is kept, which is written first if they find no room. More than are
-    /// ever kept are written then too.
+    /// Keeps the bytes, after those that are kept already. If there is no room for the new bytes, those kept
+    /// already are written first. Then the new bytes are written too, if they are more than `KEPT_LIMIT`.
     #[inline(always)]
     pub fn write(&mut self, bytes: &[u8]) -> Result<(), RunFault>
         ensures lent { self.new.writer.ghost_name ≡ self.old.writer.ghost_name }

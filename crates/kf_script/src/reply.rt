@@ -15,7 +15,7 @@ use std::alloc::{AllocError, Global};
 use std::io::Write;
 use std::marker::Model;
 
-/// The longest reply that needs no further memory, in bytes and without its newline.
+/// The length of the longest reply that needs no further memory, in bytes and without its newline.
 pub const SHORT_REPLY: usize = 4096;
 
 /// The state of a node, as `stat` prints it.
@@ -25,15 +25,15 @@ pub enum NodeState {
     Removing,
     /// It is not activated.
     Off,
-    /// It is a file that is hidden.
+    /// It is a hidden file.
     Hidden,
     /// It is live.
     Live,
 }
 
-/// The text of one reply, built anew for each line in the same memory.
+/// The text of one reply. The same memory is used again for each line.
 ///
-/// There is always room for a reply of [`SHORT_REPLY`] bytes and its newline.
+/// It always has room for a reply of [`SHORT_REPLY`] bytes and its newline.
 #[derive(Drop)]
 pub struct Reply {
     text: Vec<u8>,
@@ -63,7 +63,7 @@ impl Reply {
         self.text.as_slice()
     }
 
-    /// `ok`.
+    /// Sets the text to `ok`.
     pub fn set_done(&mut self)
         ensures { self.new ≡ done_text }
     {
@@ -71,7 +71,7 @@ impl Reply {
         self.push_known(b"ok");
     }
 
-    /// `err Line 22`: the line is too long, or makes no request.
+    /// Sets the text to `err Line 22`: the line is too long, or makes no request.
     pub fn set_bad_line(&mut self)
         ensures { self.new ≡ bad_line_text }
     {
@@ -79,7 +79,7 @@ impl Reply {
         self.push_known(b"err Line 22");
     }
 
-    /// `err NAME NUMBER`, the name and the number of a refusal.
+    /// Sets the text to `err NAME NUMBER`, with the name and the number of a refusal.
     pub fn set_refusal(&mut self, refusal: Refusal)
         ensures { self.new ≡ refusal_text refusal }
     {
@@ -90,7 +90,7 @@ impl Reply {
         self.push_number(usize::from(refusal.number()));
     }
 
-    /// `err Callback NUMBER`, the number of a callback's fault.
+    /// Sets the text to `err Callback NUMBER`, with the number of a callback's fault.
     pub fn set_fault(&mut self, number: u16)
         ensures { self.new ≡ fault_text number }
     {
@@ -99,7 +99,7 @@ impl Reply {
         self.push_number(usize::from(number));
     }
 
-    /// `ok SLOT.GENERATION`, the key of a new node.
+    /// Sets the text to `ok SLOT.GENERATION`, with the key of a new node.
     pub fn set_key(&mut self, key: Key)
         ensures { self.new ≡ key_text key }
     {
@@ -110,8 +110,8 @@ impl Reply {
         self.push_number(key.generation as usize);
     }
 
-    /// What is reported of a node: its kind, of a directory how many directories are in it and how many links
-    /// lead to it, of a file its mode, and its state.
+    /// Sets the text to what `stat` reports of a node: its kind, what its kind has, and its state. A file has
+    /// its mode. A directory has the number of directories in it and its number of links. A link has nothing.
     pub fn set_stat(&mut self, node: Node, subdirs: u32, links: u32, state: NodeState)
         ensures { self.new ≡ stat_text node subdirs links state }
     {
@@ -120,7 +120,7 @@ impl Reply {
         self.push(state.bytes());
     }
 
-    /// A number in decimal.
+    /// Sets the text to a number in decimal.
     pub fn set_number(&mut self, number: usize)
         ensures { self.new ≡ decimal number }
     {
@@ -128,7 +128,7 @@ impl Reply {
         self.push_number(number);
     }
 
-    /// `changed` or `same`.
+    /// Sets the text to `changed` or `same`.
     pub fn set_poll(&mut self, changed: bool)
         ensures { self.new ≡ poll_text changed }
     {
@@ -140,7 +140,7 @@ impl Reply {
         }
     }
 
-    /// At most [`SHORT_REPLY`] bytes as they are.
+    /// Sets the text to these bytes, at most [`SHORT_REPLY`] of them.
     ///
     /// Condition: there are at most 4,096 bytes.
     pub fn set_bytes(&mut self, bytes: &[u8])
@@ -151,8 +151,8 @@ impl Reply {
         self.push(bytes);
     }
 
-    /// Any number of bytes as they are. Refuses only `NoMemory`, and no [`SHORT_REPLY`] bytes; the text is
-    /// then unknown.
+    /// Sets the text to these bytes, any number of them. The only refusal is `NoMemory`, and it does not
+    /// occur if there are at most [`SHORT_REPLY`] bytes. After a refusal the text is unknown.
     pub fn set_text(&mut self, bytes: &[u8]) -> Result<(), Refusal>
         ensures text { OnOk result (self.new ≡ bytes.now) }
         ensures short { length bytes.now ≤ 4096 → IsOk result }
@@ -162,7 +162,7 @@ impl Reply {
         self.extend(bytes)
     }
 
-    /// Writes the text and a newline, and forgets the text.
+    /// Writes the text and a newline to the output, and clears the text.
     #[inline(always)]
     pub fn write_line<W: Write>(&mut self, output: &mut Output<'_, W>) -> Result<(), RunFault>
         ensures written { WrittenOrCut
@@ -181,7 +181,7 @@ impl Reply {
         result
     }
 
-    /// No text.
+    /// Clears the text.
     #[inline(always)]
     pub fn clear(&mut self)
         ensures { self.new ≡ [] }
@@ -189,7 +189,7 @@ impl Reply {
         self.text.clear();
     }
 
-    /// Appends a text that is known where this is called, for which there is room.
+    /// Appends a text that is a constant at each call, and for which there is room.
     #[inline(always)]
     fn push_known(&mut self, text: &[u8])
         requires { length self.old + length text.now ≤ 4096 }
@@ -208,8 +208,8 @@ impl Reply {
         push_all(&mut self.text, bytes);
     }
 
-    /// Appends any number of bytes as they are. Refuses only `NoMemory`, and nothing that makes a reply of
-    /// [`SHORT_REPLY`] bytes; the text is then unknown.
+    /// Appends any number of bytes. The only refusal is `NoMemory`, and it does not occur if the text then
+    /// has at most [`SHORT_REPLY`] bytes. After a refusal the text is unknown.
     pub fn extend(&mut self, bytes: &[u8]) -> Result<(), Refusal>
         ensures text { OnOk result (self.new ≡ self.old ++ bytes.now) }
         ensures short { length self.old + length bytes.now ≤ 4096 → IsOk result }
@@ -233,7 +233,7 @@ impl Reply {
         self.push(buffer.format(number).as_bytes());
     }
 
-    /// Appends what is reported of a node before its state.
+    /// Appends what `stat` reports of a node before the node's state.
     fn push_node(&mut self, node: Node, subdirs: u32, links: u32)
         requires { self.old ≡ [] }
         ensures text { self.new ≡ node_text node subdirs links }
@@ -278,7 +278,7 @@ impl NodeState {
     }
 }
 
-/// Three octal digits.
+/// The last three octal digits of a mode.
 fn octal(mode: u16) -> [u8; 3]
     ensures { result ≡ octal_text mode }
 {

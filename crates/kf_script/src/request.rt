@@ -2,16 +2,16 @@
 
 /// A request, as a line spells it.
 ///
-/// A path or a name is any bytes without a space: what is wrong with it the tree says. A file is the
-/// place of its letter in the alphabet, 0 to 25.
+/// A path or a name is any sequence of bytes without a space: the tree checks it, and says what is wrong with
+/// it. A file is the place of its letter in the alphabet, 0 to 25.
 #[derive(Clone, Copy)]
 pub enum Request<'a> {
-    /// `mkdir PATH`, and with `off` a directory that is not activated.
+    /// `mkdir PATH`, or `mkdir PATH off` for a directory that is not activated.
     MakeDirectory {
         path: &'a [u8],
         is_live: bool,
     },
-    /// `file PATH MODE TEXT`, the mode 0 to 0o777.
+    /// `file PATH MODE TEXT`, with a mode from 0 to 0o777.
     MakeFile {
         path: &'a [u8],
         mode: u16,
@@ -48,14 +48,14 @@ pub enum Request<'a> {
     Remove {
         path: &'a [u8],
     },
-    /// `open H PATH r`, `w` or `rw`.
+    /// `open H PATH r|w|rw`.
     OpenFile {
         file: usize,
         path: &'a [u8],
         reads: bool,
         writes: bool,
     },
-    /// `read H OFF LEN`: at most this many bytes from the offset on.
+    /// `read H OFF LEN`: at most LEN bytes from the offset OFF on.
     ReadFile {
         file: usize,
         offset: u64,

@@ -1,5 +1,6 @@
-//! What stands behind each command: the words of its row, one after the other, and the request that they
-//! make. Each is inlined, so that words stay in registers and a request is made where it is needed.
+//! The rows of the grammar. For each command, a function takes the words after it, one by one, and makes
+//! their request. Each function is inlined, so that the words stay in registers and the request is built in
+//! its final place.
 
 ghost use Rattle.std.specs.Prelude.{◌≡◌, codes, IfSome};
 ghost use Rattle.std.specs.Option.{option_map};
@@ -114,7 +115,7 @@ pub fn remove(mut words: LineWords<'_>) -> Option<Request<'_>>
     Some(Request::Remove { path })
 }
 
-/// `open H PATH r`, `w` or `rw`.
+/// `open H PATH r|w|rw`.
 #[inline(always)]
 pub fn open(mut words: LineWords<'_>) -> Option<Request<'_>>
     ensures value { option_map request_words result ≡ reads_of (codes "open") words.entry }

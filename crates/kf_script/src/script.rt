@@ -1,4 +1,4 @@
-//! Running a script: its lines get their replies one by one while it is read.
+//! Runs a script: replies to its lines one by one while it is read.
 
 ghost use Rattle.std.specs.Prelude.{◌≡◌, ◌≤◌, ℕ, List, Bool, [], ◌∷◌, ◌++◌, Option, Some, All, false, length, MatchResult, OnOk, IfErr, IfSome, IsErrOf};
 ghost use Rattle.std.specs.Option.{option_map};
@@ -20,10 +20,10 @@ use super::streams::{READ_LIMIT, Streams};
 use std::alloc::Global;
 use std::io::{Read, Write};
 
-/// Bytes that one call of read may give.
+/// How many bytes one call of read may return.
 const CHUNK: usize = 65_536;
 
-/// Puts the reply to a line into the buffer.
+/// Puts the reply to a line into `reply`.
 fn answer_line<B: Board>(board: &mut B, reply: &mut Reply, line: &[u8])
     requires { length line.now ≤ line_limit }
     ensures { (starved : Bool)
@@ -37,7 +37,7 @@ fn answer_line<B: Board>(board: &mut B, reply: &mut Reply, line: &[u8])
     }
 }
 
-/// Replies to a whole line, if it has bytes.
+/// Replies to a whole line, unless it is empty.
 fn end_whole<B: Board, W: Write>(
     board: &mut B,
     reply: &mut Reply,
@@ -59,7 +59,7 @@ fn end_whole<B: Board, W: Write>(
     reply.write_line(output)
 }
 
-/// Replies to a line that has ended, if it has bytes; without a line, to one that was too long.
+/// Replies to a line that has ended, unless it is empty. If `line` is `None`, the line was too long.
 fn end_line<B: Board, W: Write>(
     board: &mut B,
     reply: &mut Reply,
@@ -82,7 +82,7 @@ fn end_line<B: Board, W: Write>(
     end_whole(board, reply, bytes, output)
 }
 
-/// Takes the bytes before a newline, and replies to the line that they end.
+/// Takes the bytes before a newline, and replies to the line that ends with them.
 fn take_line<B: Board, W: Write>(
     board: &mut B,
     reply: &mut Reply,
@@ -112,7 +112,7 @@ fn take_line<B: Board, W: Write>(
     result
 }
 
-/// Takes the bytes that one read gave.
+/// Takes the bytes that one read returned, and replies to each line that ends in them.
 fn take_bytes<B: Board, W: Write>(
     board: &mut B,
     reply: &mut Reply,
@@ -183,15 +183,15 @@ fn read_lines<B: Board, R: Read, W: Write>(
     }
 }
 
-/// Gives each line of a script one reply.
+/// Runs a script: reads its lines, has the board carry them out, and writes one reply for each line.
 ///
-/// If it returns `Ok`, the script was read to its end and each of its lines has its reply, however the
-/// reader cut it. After [`RunFault::Read`] each line that had ended has its reply. After [`RunFault::Write`]
-/// what was written is a prefix of the replies. [`RunFault::Memory`] comes before the first read, with
-/// nothing read, written or changed. It makes at most 16,777,216 calls of read.
+/// If it returns `Ok`, the script was read to its end and each of its lines has its reply, however the reads
+/// cut the script. (An empty line gets no reply.) After [`RunFault::Read`], each line that had ended has its
+/// reply. After [`RunFault::Write`], what was written is a prefix of the replies. If it fails with
+/// [`RunFault::Memory`], nothing was read, written or changed. It makes at most 16,777,216 calls of read.
 ///
-/// The replies to lines that are read whole are written before more is read: together, whole lines of at most
-/// 4,096 bytes, and a longer one by itself.
+/// The replies to all lines that were read whole are written before more is read. They are written in batches
+/// of whole replies with their newlines, at most 4,096 bytes in a batch. A longer reply is written by itself.
 pub fn run_script<B: Board, R: Read, W: Write>(
     alloc: Global,
     board: &mut B,

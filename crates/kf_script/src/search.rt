@@ -1,4 +1,4 @@
-//! Where a byte is.
+//! Finds a newline or a space in bytes.
 
 ghost use Rattle.std.specs.Prelude.{◌≡◌, ◌≤◌, ◌<◌, ◌+◌, ◌==◌, not, length, position};
 ghost use Rattle.std.specs.List.{prefix_len};
@@ -9,7 +9,7 @@ ghost use Rattle.kf_script.specs.Requests.{is_space};
 use memchr::memchr;
 use std::simd::prelude::*;
 
-/// How many of the 16 bytes from a place on stand before the first such byte: 16 if none of them is one.
+/// How many of the 16 bytes at `from` come before the first one that is `byte`: 16 if none of them is.
 #[inline(always)]
 fn before_in_16(byte: u8, bytes: &[u8], from: usize) -> usize
     requires { from + 16 ≤ length bytes.now }
@@ -25,7 +25,7 @@ fn before_in_16(byte: u8, bytes: &[u8], from: usize) -> usize
     }
 }
 
-/// The same of 8 bytes.
+/// The same for 8 bytes.
 #[inline(always)]
 fn before_in_8(byte: u8, bytes: &[u8], from: usize) -> usize
     requires { from + 8 ≤ length bytes.now }
@@ -41,7 +41,7 @@ fn before_in_8(byte: u8, bytes: &[u8], from: usize) -> usize
     }
 }
 
-/// The same of 4 bytes.
+/// The same for 4 bytes.
 #[inline(always)]
 fn before_in_4(byte: u8, bytes: &[u8], from: usize) -> usize
     requires { from + 4 ≤ length bytes.now }
@@ -57,7 +57,7 @@ fn before_in_4(byte: u8, bytes: &[u8], from: usize) -> usize
     }
 }
 
-/// Where the byte is first in 4 to 8 bytes: the first 4 are looked at, and then the last 4.
+/// The first place of the byte in 4 to 8 bytes. It looks at the first 4 bytes, and then at the last 4.
 #[inline(always)]
 fn place_by_4(byte: u8, bytes: &[u8]) -> Option<usize>
     requires length { (4 ≤ length bytes.now) × (length bytes.now ≤ 8) }
@@ -74,7 +74,7 @@ fn place_by_4(byte: u8, bytes: &[u8]) -> Option<usize>
     None
 }
 
-/// Where the byte is first in 8 to 16 bytes: the first 8 are looked at, and then the last 8.
+/// The first place of the byte in 8 to 16 bytes. It looks at the first 8 bytes, and then at the last 8.
 #[inline(always)]
 fn place_by_8(byte: u8, bytes: &[u8]) -> Option<usize>
     requires length { (8 ≤ length bytes.now) × (length bytes.now ≤ 16) }
@@ -91,7 +91,7 @@ fn place_by_8(byte: u8, bytes: &[u8]) -> Option<usize>
     None
 }
 
-/// Where the byte is first in 16 to 32 bytes: the first 16 are looked at, and then the last 16.
+/// The first place of the byte in 16 to 32 bytes. It looks at the first 16 bytes, and then at the last 16.
 #[inline(always)]
 fn place_by_16(byte: u8, bytes: &[u8]) -> Option<usize>
     requires length { (16 ≤ length bytes.now) × (length bytes.now ≤ 32) }
@@ -108,7 +108,8 @@ fn place_by_16(byte: u8, bytes: &[u8]) -> Option<usize>
     None
 }
 
-/// Where the byte is first in more bytes: twice 16 are looked at, and then all.
+/// The first place of the byte in more than 32 bytes. It looks at the first 16, at the next 16, and then at
+/// all of them.
 #[inline(always)]
 fn place_in_many(byte: u8, bytes: &[u8]) -> Option<usize>
     requires length { 32 < length bytes.now }
@@ -125,8 +126,8 @@ fn place_in_many(byte: u8, bytes: &[u8]) -> Option<usize>
     memchr(byte, bytes)
 }
 
-/// Where the byte is first. LineWords and lines are short: so 4, 8 or 16 bytes are looked at together, where
-/// `memchr` looks at fewer than 32 one by one.
+/// The first place of the byte. Words and lines are short, so this looks at 4, 8 or 16 bytes at once.
+/// `memchr` looks at fewer than 32 bytes one by one.
 #[inline(always)]
 fn place_of(byte: u8, bytes: &[u8]) -> Option<usize>
     ensures { result ≡ position (λ b. b == byte) bytes.now }
@@ -140,7 +141,7 @@ fn place_of(byte: u8, bytes: &[u8]) -> Option<usize>
     }
 }
 
-/// Where the first newline is.
+/// The place of the first newline.
 #[inline(always)]
 pub fn newline_in(bytes: &[u8]) -> Option<usize>
     ensures { result ≡ position is_newline bytes.now }
@@ -148,14 +149,15 @@ pub fn newline_in(bytes: &[u8]) -> Option<usize>
     place_of(b'\n', bytes)
 }
 
-/// Where the first space is. (Its byte is known in a separate function, which all words call.)
+/// The place of the first space. (All words call this function, in which the byte is a constant.)
 pub fn space_in(bytes: &[u8]) -> Option<usize>
     ensures { result ≡ position is_space bytes.now }
 {
     place_of(b' ', bytes)
 }
 
-/// The same, if one byte is likely to be all that stands before it. Inlined, it then makes no call.
+/// Like `space_in`, for a word that is likely to have one byte. It is inlined, and makes no call if the word
+/// has one byte.
 #[inline(always)]
 pub fn space_behind_letter(bytes: &[u8]) -> Option<usize>
     ensures place { result ≡ position is_space bytes.now }
@@ -169,7 +171,7 @@ pub fn space_behind_letter(bytes: &[u8]) -> Option<usize>
     space_in(bytes)
 }
 
-/// The same, if one or two bytes are likely to be all.
+/// Like `space_in`, for bytes that are likely to be a last word of one or two bytes.
 #[inline(always)]
 pub fn space_in_two(bytes: &[u8]) -> Option<usize>
     ensures place { result ≡ position is_space bytes.now }

@@ -1,5 +1,5 @@
-//! The streams of one run: the one way to the reader, with each call of read counted, and the output, of
-//! which nothing is kept back at such a call.
+//! The streams of one run: its reader and its output. They are the only way to the reader, and count each
+//! call of read. When such a call is made, no output is kept back.
 
 ghost use Rattle.std.specs.Prelude.{◌≡◌, ◌≤◌, ◌<◌, ◌+◌, [], length, take, MatchResult, OnErr, IfErr, IfOk, IsErrOf};
 ghost use Rattle.std.specs.Io.KnownBytes.{Consumes, IsAtEnd, Keeps};
@@ -8,21 +8,22 @@ use super::fault::RunFault;
 use super::output::Output;
 use std::io::Read;
 
-/// The calls of read that one run may make; after that many it is a read fault.
+/// How many calls of read one run may make. An attempt to make another one is a read fault.
 pub const READ_LIMIT: u32 = 16_777_216;
 
-/// The reader and the output of one run. While this has the reader nothing else can read, so no call of read
-/// goes uncounted, none is made while replies of this run are kept, and after one that failed there is none.
+/// The reader and the output of one run. While this has the reader, nothing else can read. So each call of
+/// read is counted, none is made while replies of this run are kept, and none follows a call that failed.
 #[derive(Drop)]
 pub struct Streams<'a, R, W> {
     reader: &'a mut R,
-    /// The calls of read that may still be made; none after one that failed.
+    /// How many calls of read may still be made: 0 after one that failed.
     left: u32,
     pub output: Output<'a, W>,
 }
 
 impl<'a, R: Read, W> Streams<'a, R, W> {
-    /// Takes the reader for one run of this many calls of read, beside the output of the same run.
+    /// Borrows the reader for one run of at most this many calls of read, and takes the output of the same
+    /// run.
     pub fn new(reader: &'a mut R, calls: u32, output: Output<'a, W>) -> Streams<'a, R, W>
         ensures lent { result.reader.ghost_name ≡ reader.entry.ghost_name }
         ensures reader { result.reader.now ≡ reader.old }
@@ -36,10 +37,10 @@ impl<'a, R: Read, W> Streams<'a, R, W> {
         }
     }
 
-    /// Reads once and counts it, if a call is left. The number of bytes is 0 only at the end of the
-    /// input.
+    /// Makes one call of read and counts it, if a call is left, and returns the number of bytes. This number
+    /// is 0 only at the end of the input.
     ///
-    /// Condition: no reply is kept, as a call of read may wait.
+    /// Condition: `chunk` is not empty, and no reply is kept, since a call of read may wait.
     pub fn read(&mut self, chunk: &mut [u8]) -> Result<usize, RunFault>
         requires room { 0 < length chunk.old }
         requires told { self.old.output.kept.now.items ≡ [] }

@@ -1,4 +1,4 @@
-//! The words of a line, taken one by one. All are inlined, for the sake of the rows.
+//! The words of a line, taken one by one. All functions are inlined, for the sake of the rows of the grammar.
 
 ghost use Rattle.std.specs.Prelude.{◌≡◌, ◌≤◌, ◌<◌, ℕ, List, Option, Some, None, IfSome, position, if◌then◌else◌};
 ghost use Rattle.std.specs.Option.{option_map, option_and_then};
@@ -9,7 +9,8 @@ use super::search::{space_behind_letter, space_in, space_in_two};
 use super::spelling::spells;
 use std::marker::Model;
 
-/// What stands behind a word of a line: nothing, or what follows its space.
+/// What is left of a line. At first this is the whole line. After a word was taken, it is nothing, or the
+/// text after that word's space.
 #[derive(Drop)]
 pub struct LineWords<'a> {
     later: Option<&'a [u8]>,
@@ -22,7 +23,7 @@ impl<'a> Model for LineWords<'a> {
 }
 
 impl<'a> LineWords<'a> {
-    /// A line, of which no word was taken yet.
+    /// A line from which no word was taken yet.
     #[inline(always)]
     pub fn new(line: &'a [u8]) -> LineWords<'a>
         ensures { result ≡ Some line.now }
@@ -30,7 +31,8 @@ impl<'a> LineWords<'a> {
         LineWords { later: Some(line) }
     }
 
-    /// Takes the first word of all that comes, if its first space is known.
+    /// Takes the first word of `text`, which is all that is left. `space` is the place of the first space in
+    /// `text`, if there is one.
     #[inline(always)]
     fn cut(&mut self, text: &'a [u8], space: Option<usize>) -> &'a [u8]
         requires space { space ≡ position is_space text.now }
@@ -49,7 +51,7 @@ impl<'a> LineWords<'a> {
         }
     }
 
-    /// Takes the next word, which may be empty: what stands before the next space.
+    /// Takes the next word, if anything is left: the text before the next space. This word may be empty.
     #[inline(always)]
     pub fn next(&mut self) -> Option<&'a [u8]>
         ensures word { option_map (λ word. word.now) result ≡ next_word self.old }
@@ -59,7 +61,7 @@ impl<'a> LineWords<'a> {
         Some(self.cut(text, space_in(text)))
     }
 
-    /// The same, if a word of one letter is likely.
+    /// Like `next`, for a word that is likely to have one letter.
     #[inline(always)]
     fn next_letter(&mut self) -> Option<&'a [u8]>
         ensures word { option_map (λ word. word.now) result ≡ next_word self.old }
@@ -69,7 +71,7 @@ impl<'a> LineWords<'a> {
         Some(self.cut(text, space_behind_letter(text)))
     }
 
-    /// The same, if a last word of one or two letters is likely.
+    /// Like `next`, for a word that is likely to be the last one and to have one or two letters.
     #[inline(always)]
     fn next_of_two(&mut self) -> Option<&'a [u8]>
         ensures word { option_map (λ word. word.now) result ≡ next_word self.old }
@@ -128,7 +130,7 @@ impl<'a> LineWords<'a> {
         length_in(self.next()?)
     }
 
-    /// Takes what a file is opened for: reading, writing.
+    /// Takes the word that says whether a file is opened for reading, and whether for writing.
     #[inline(always)]
     pub fn want(&mut self) -> Option<(bool, bool)>
         ensures value { result ≡ option_and_then want_of (next_word self.old) }
@@ -137,7 +139,7 @@ impl<'a> LineWords<'a> {
         want_in(self.next_of_two()?)
     }
 
-    /// Whether nothing more comes.
+    /// Returns `Some` if nothing is left, and else `None`.
     #[inline(always)]
     pub fn end(&self) -> Option<()>
         ensures { result ≡ (if is_over self.now then Some tt else None) }
@@ -148,7 +150,8 @@ impl<'a> LineWords<'a> {
         }
     }
 
-    /// Whether this word comes last and by itself, or nothing more comes. None if something else comes.
+    /// Returns `Some(true)` if exactly this word is left, `Some(false)` if nothing is left, and `None` if
+    /// something else is left.
     #[inline(always)]
     pub fn last(&self, last: &[u8]) -> Option<bool>
         ensures { result ≡ last_word last.now self.now }
@@ -160,7 +163,7 @@ impl<'a> LineWords<'a> {
         }
     }
 
-    /// All that comes, its spaces too.
+    /// All that is left, including spaces; empty if nothing is left.
     #[inline(always)]
     pub fn text(&self) -> &'a [u8]
         ensures { result.now ≡ whole_text self.now }

@@ -1,4 +1,5 @@
--- What was done while the lock was held once, as the seats have seen it that were informed before the unlock.
+-- What was done while the lock was held once, as it is seen by the seats that met the Master before the
+-- unlock.
 use Rattle.std.proofs.Common.{◌≡◌, ℕ, Bool, true, false, List, [], ◌∷◌, ◌++◌, refl, sym, ap, ◌∙◌, subst}
 use Rattle.std.specs.Prelude.{MatchBool, Result, Ok, Err, IfOk, OnOk, None, not}
 use Rattle.std.proofs.lemmas.List.{append-nil, append_assoc}
@@ -19,7 +20,7 @@ use Rattle.kf_shared.specs.Sections.{IsTaken, SawMore, WasAdded, WasAddedLate, W
 use Rattle.kf_shared.proofs.Notes.{tree_told, claims_told}
 use Rattle.kf_shared.proofs.Hearing.{prefix_self, prefix_trans, more_told}
 
--- these notes were added, and no other before the unlock
+-- these notes, and no others, were added before the unlock
 pub late_added : (old new : Locked) (before mid closed after : Handle) (added : List Note) → SawMore before.seen mid.seen → history new ≡ history old ++ added → WasClosed new [] mid closed → SawMore closed.seen after.seen
     → WasAddedLate before.seen after.seen (history old) added
 late_added old new before mid closed after added first notes shut more = record {
@@ -59,7 +60,7 @@ module _ (table : TableId) (old : Locked) (whole : IsWhole table old) (taken : I
   finished_in (Ok x) before after h = finished_alone before after h
   finished_in (Err e) before after h = tt
 
-  -- so is a showing
+  -- a show is all that was done
   pub shown_alone : (before after : Handle) → IsPrefix (history_of before.seen) (history old) → history_of after.seen ≡ (history old ++ show_note old.state.tree before.key) ++ LockReleased ∷ [] → WasShownAlone before after
   shown_alone before after came seen = (
     history old,
@@ -72,7 +73,7 @@ module _ (table : TableId) (old : Locked) (whole : IsWhole table old) (taken : I
     },
   )
 
-  -- and a self-removal
+  -- a self-removal is all that was done
   pub self_removed : (before after : Handle) (first : Bool) (keys : List Key) → WasAddedLate before.seen after.seen (history old) (self_notes old.state.tree before.key) → first ≡ not (is_claimed old.claims before.key)
       → IsDoomList old.state.tree before.key keys → WasSelfRemoved before after first keys
   self_removed before after first keys late told listed = record {

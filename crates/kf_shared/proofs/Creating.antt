@@ -1,4 +1,4 @@
--- What a create finds, once nothing is wrong with the new node.
+-- What a create finds after the new node has passed all tests.
 use Rattle.std.proofs.Common.{◌≡◌, ap, subst, List, ℕ, [], ◌∷◌}
 use Rattle.std.specs.Prelude.{Option, None, Some, IfSome, is_some, slice_get}
 use Rattle.kf_core.specs.declared.key.Key.{Key}

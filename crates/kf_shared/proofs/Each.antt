@@ -1,4 +1,4 @@
--- Lists of handles that go together, one by one.
+-- Lists of handles that are related item by item.
 use Rattle.std.proofs.Common.{◌≡◌, List, [], ◌∷◌, ◌++◌, refl, ap, ◌∙◌}
 use Rattle.kf_words.specs.Callers.{Handle, IsSameSeat}
 use Rattle.kf_shared.specs.Receipts.{Owner, owner, owners_of}
@@ -35,7 +35,7 @@ each_as R S by [] (y ∷ ys) e = absurd e
 each_as R S by (x ∷ xs) [] e = absurd e
 each_as R S by (x ∷ xs) (y ∷ ys) e = (by x y e.0, each_as R S by xs ys e.1)
 
--- what goes together with two lists, one after the other, are two lists
+-- a list that is related to a list in two parts has two parts itself
 pub each_split : (R : Handle → Handle → Type 0) → (xs front back : List Handle) → Each R xs (front ++ back) → (first : List Handle) × (last : List Handle) × (xs ≡ first ++ last) × Each R first front × Each R last back
 each_split R xs [] back e = ([], xs, refl, tt, e)
 each_split R [] (y ∷ front) back e = absurd e

@@ -16,7 +16,7 @@ before_end [] x d i l = absurd (omega (arith, l))
 before_end (y ∷ ys) x d zero l = refl
 before_end (y ∷ ys) x d (suc i) l = before_end ys x d i (omega (arith, l))
 
--- in a list whose last key stands nowhere else, the others are not it
+-- if the keys of a list all differ, each key before the last differs from the last
 pub not_last : (keys below : List Key) (top key : Key) → AllPairs (λ a b. a ≢ b) keys → keys ≡ below ++ top ∷ [] → Contains below key → key ≢ top
 not_last keys below top key differ parts h e =
     subst (λ ks. AllPairs (λ a b. a ≢ b) ks) parts differ h.0 (length below) key h.1 (let n = length_end below top in omega (arith, n))

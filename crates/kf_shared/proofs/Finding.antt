@@ -1,4 +1,4 @@
--- A holder of paths of which first the looker has changed, and then only what its own hold has seen.
+-- A holder of paths in which first the looker has changed, and then only what its own hold has seen.
 use Rattle.std.proofs.Common.{◌≡◌, ◌∙◌, ap, sym, subst}
 use Rattle.kf_words.specs.Callers.{IsSameSeat}
 use Rattle.kf_words.specs.Another.{StaysAs}

@@ -1,4 +1,4 @@
--- All the turns of a removal that has to wait, one after the other.
+-- All turns of a removal that has to wait, one after the other.
 use Rattle.std.proofs.Common.{◌≡◌, zero, suc, List, [], ◌∷◌, ◌++◌, length, refl, sym, ap, ◌∙◌, subst, arith}
 use Rattle.std.specs.Prelude.{All, Option, ⊤}
 use Rattle.std.specs.Option.{option_to_list}
@@ -19,7 +19,7 @@ use Rattle.kf_shared.proofs.Receipts.{owners_more, same_owner, same_owner_keys}
 use Rattle.kf_shared.proofs.Stepped.{only_more, only_waited, stays_more, stays_on, stays_self, waited_on, waited_saw, waited_self}
 use Rattle.kf_shared.proofs.Turns.{same_owner_tables}
 
--- what each of these had seen came before, if it had seen less
+-- if what each hold has seen by now came before the unlink of its node, so did what it had seen earlier
 came_before : (notes : List Note) (holds now : List Handle) → Each Stays holds now → AllCame notes now → AllCame notes holds
 came_before notes [] [] e c = tt
 came_before notes [] (y ∷ ys) e c = absurd e
@@ -29,7 +29,7 @@ came_before notes (x ∷ xs) (y ∷ ys) e c = (
   came_before (unlinked notes x.key) xs ys e.1 (subst (λ k. AllCame (unlinked notes k) ys) e.0.0.key c.1),
 )
 
--- what was seen at the end of these turns
+-- the history at the end of these turns
 abbrev pub past_of : List Note → List Turn → List Note
 past_of past [] = past
 past_of past (turn ∷ turns) = past_of (turn_end turn) turns
@@ -38,7 +38,7 @@ past_more : (past : List Note) (turns : List Turn) (turn : Turn) → past_of pas
 past_more past [] turn = refl
 past_more past (t ∷ turns) turn = past_more (turn_end t) turns turn
 
--- one turn more
+-- one more turn is added to these turns
 turns_more : (past : List Note) (holds left receipts : List Handle) (turns : List Turn) (turn : Turn) (rest : List Handle) → AreTurns past holds left receipts turns → left ≡ turn.holds ++ rest → IsTurn (past_of past turns) (keys_of left) turn
     → AreTurns past holds rest (receipts ++ turn.receipts) (turns ++ turn ∷ [])
 turns_more past holds left receipts [] turn rest are split is = (
@@ -58,7 +58,7 @@ turns_more past holds left receipts (t ∷ turns) turn rest are split is = (
   turns_more (turn_end t) are.0 left are.1 turns turn rest are.5 split is,
 )
 
--- the first of these may have waited, since the turn before; and the others only looked
+-- the first of these may have waited since the turn before, and the others only looked
 abbrev pub HaveWaited : List Note → List Handle → List Handle → Type 0
 HaveWaited past [] [] = ⊤
 HaveWaited past [] (y ∷ ys) = ⊥
@@ -78,7 +78,7 @@ none_waited past [] (y ∷ ys) e saw = absurd e
 none_waited past (x ∷ xs) [] e saw = absurd e
 none_waited past (x ∷ xs) (y ∷ ys) e saw = ((e.0.0, (seat_view y, e.0.1, saw, waited_self (seat_view y))), e.1)
 
--- the first waited
+-- if the first has waited now, still only the first may have waited
 first_waited : (past : List Note) (xs ys zs : List Handle) → HaveWaited past xs ys → FirstDrained ys zs → HaveWaited past xs zs
 first_waited past [] [] zs w d = subst (HaveWaited past []) (sym d) tt
 first_waited past [] (y ∷ ys) zs w d = absurd w
@@ -88,7 +88,7 @@ first_waited past (x ∷ xs) (y ∷ ys) zs w d = subst (HaveWaited past (x ∷ x
   w.1,
 )
 
--- its unlink was refused: so it looked, and no node left the tree
+-- the holds looked once more, so still only the first may have waited
 looked_still : (past : List Note) (xs ys zs : List Handle) → HaveWaited past xs ys → Each Stays ys zs → HaveWaited past xs zs
 looked_still past [] [] [] w e = tt
 looked_still past [] [] (z ∷ zs) w e = absurd e
@@ -100,7 +100,7 @@ looked_still past (x ∷ xs) (y ∷ ys) (z ∷ zs) w e = (
   each_then Stays Stays Stays stays_on xs ys zs w.1 e.1,
 )
 
--- of these nodes, some have their receipts, and these are left as they are now
+-- turns have made receipts for the first of these holds, and the others are left as they are now
 pub record IsFinishing (all before receipts left : List Handle) : Type 0 where
   pub turns : List Turn
   pub rest : List Handle
@@ -125,7 +125,7 @@ none_finished all before = record {
     saw_nothing [] = tt
     saw_nothing (h ∷ holds) = (history_of h.seen, refl)
 
--- all are finished
+-- if no hold is left, all are finished
 pub all_finished : (all before receipts left after : List Handle) → IsFinishing all before receipts left → FirstDrained left after → after ≡ [] → AreFinished before all receipts × (owners_of receipts ≡ owners_of before ++ owners_of all)
 all_finished all before receipts [] after f d none = (
   (f.made, f.added, (f.turns, subst (λ l. AreTurns [] all l f.made f.turns) (nothing (past_of [] f.turns) f.rest f.waits) f.done)),
@@ -178,7 +178,7 @@ module _ (all before receipts left receipts' left' : List Handle) (found : List 
   ended : (holds : List Handle) → turn_end (turn_of holds) ≡ w.after ++ LockReleased ∷ []
   ended holds = ap (λ n. n ++ LockReleased ∷ []) (sym w.turn.unlinks)
 
-  -- no node left the tree
+  -- the turn made no receipt
   refused : left ≡ w.turn.rest → w.turn.made ≡ [] → IsFinishing all before receipts' left'
   refused same none = record {
     turns = f.turns;
@@ -190,7 +190,7 @@ module _ (all before receipts left receipts' left' : List Handle) (found : List 
     waits = looked_still so_far f.rest left left' f.waits (subst (λ l. Each Stays l left') (sym same) w.turn.left_are);
   }
 
-  -- the first of them did, and more of them
+  -- the turn made a receipt for the first hold, and maybe for more of them
   module _ (d : Handle) (ds : List Handle) (split : left ≡ (d ∷ ds) ++ w.turn.rest) (first : IsPrefix (keys_of (d ∷ ds)) w.turn.gone) (came : AllCame found (d ∷ ds)) (h : Handle) (hs : List Handle) (is : f.rest ≡ h ∷ hs)
       (seat : IsSameSeat h d) (waited : WaitedAfter so_far (seat_view h) (seat_view d)) (a b : List Handle) (parts : hs ≡ a ++ b) (front : Each Stays a ds) (back : Each Stays b w.turn.rest) where
     more : SawMore h.seen d.seen
@@ -244,7 +244,7 @@ module _ (all before receipts left receipts' left' : List Handle) (found : List 
       go (h ∷ hs) is waits =
           (let s = each_split Stays hs ds w.turn.rest waits.1 in finished_more d ds split first came h hs is waits.0.0 waits.0.1 s.0 s.1 s.2 s.3 s.4 made)
 
-  -- the removal after one turn more
+  -- the removal after one more turn
   pub one_turn : IsFinishing all before receipts' left'
   one_turn = any_done w.turn.done w.turn.split w.turn.receipts_are w.turn.first w.turn.came
 
@@ -278,19 +278,19 @@ last_each [] (r ∷ s ∷ receipts) hold e = absurd e.1
 last_each (h ∷ front) [] hold e = absurd e
 last_each (h ∷ front) (r ∷ receipts) hold e = (let rest = last_each front receipts hold e.1 in (r ∷ rest.0, rest.1, ap (λ l. r ∷ l) rest.2, rest.3))
 
--- the last receipt is of the last hold, and has seen what that had
+-- the last receipt is that of the last hold, and has seen what this hold had seen
 pub last_ended : (front receipts : List Handle) (hold : Handle) → AllEnded (front ++ hold ∷ []) receipts → Last (λ receipt. SawMore hold.seen receipt.seen) receipts
 last_ended front receipts hold e = last_each front receipts hold (ended_saw (front ++ hold ∷ []) receipts e)
 
--- the receipts of a removal are those that were there, and those of the turns
+-- the receipts of a removal are those that were there before, and those that the turns made
 pub ended_rest : (before holds receipts : List Handle) → AreFinished before holds receipts → AllEnded (before ++ holds) receipts
 ended_rest before holds receipts f = (before, holds, f.0, refl, f.1, f.2)
 
--- all are made by turns, if there was no receipt before
+-- if there was no receipt before, all receipts were made by turns
 pub all_made : (before holds receipts : List Handle) → before ≡ [] → AreFinished before holds receipts → AllFinished holds receipts
 all_made before holds receipts none f = subst (AllFinished holds) (sym (f.1 ∙ ap (λ l. l ++ f.0) none ∙ (let r : [] ++ f.0 ≡ f.0 = refl in r))) f.2
 
--- the receipts and those that are left are of the table
+-- if two lists of handles are of the table, so are both lists together
 both_tables : (table : TableId) (xs ys : List Handle) → AreOf table xs → AreOf table ys → AreOf table (xs ++ ys)
 both_tables table [] ys a b i d l = b i d l
 both_tables table (x ∷ xs) ys a b zero d l = a 0 d (omega arith)

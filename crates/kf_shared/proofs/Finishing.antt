@@ -1,4 +1,4 @@
--- What a caller that saw its node drained does while that is finished.
+-- What a caller that saw its node drained does until the node is finished.
 use Rattle.std.proofs.Common.{◌≡◌, ℕ, zero, suc, Bool, true, false, inl, inr, refl, ap, ◌∙◌}
 use Rattle.std.specs.Prelude.{Result, Ok, Err, OnOk, is_err}
 use Rattle.kf_words.specs.Callers.{Handle, IsSameSeat, seat_view}
@@ -19,7 +19,7 @@ heard_seat a b heard = record {
 pub seat_on : (a b c : Handle) → IsSameSeat a b → IsSameSeat b c → IsSameSeat a c
 seat_on a b c x y = record { table = y.table ∙ x.table; seat = y.seat ∙ x.seat; key = y.key ∙ x.key; node = y.node ∙ x.node }
 
--- it waits still
+-- the caller still waits
 pub record IsWaiting (first drained : Handle) : Type 0 where
   pub same : IsSameSeat first drained
   pub rested : (count : ℕ) × RestedOrLooked count (seat_view first) (seat_view drained)
@@ -32,7 +32,7 @@ waits_first drained = record {
   later = prefix_self drained.seen.steps;
 }
 
--- it waits, and has learned what was done until the lock was released
+-- the caller waits, and has now seen all that was done until the lock was released
 module _ (hold a b : Handle) (w : IsWaiting hold a) (heard : HasHeard a b) (more : SawMore a.seen b.seen) where
   told : WasTold (seat_view a) (seat_view b)
   told = heard_told a b heard more
@@ -43,7 +43,7 @@ module _ (hold a b : Handle) (w : IsWaiting hold a) (heard : HasHeard a b) (more
   pub told_more : SawMore hold.seen b.seen
   told_more = prefix_trans hold.seen.steps a.seen.steps b.seen.steps w.later more
 
-  -- then it rested
+  -- then the caller rested
   pub waits_rested : (c : Handle) → HasHeard b c → (counted : Bool) × Rested counted (seat_view b) (seat_view c) → IsWaiting hold c
   waits_rested c same rest = record {
     same = seat_on hold b c told_seat (heard_seat b c same);
@@ -51,7 +51,7 @@ module _ (hold a b : Handle) (w : IsWaiting hold a) (heard : HasHeard a b) (more
     later = prefix_trans hold.seen.steps b.seen.steps c.seen.steps told_more (rested_more rest.0 (seat_view b) (seat_view c) rest.1);
   }
 
-  -- or it looked once more, and the node was linked still
+  -- or it looked once more, and the node was still linked
   pub waits_on : (c : Handle) → IsSameSeat b c → WasMade parts (seat_view b) (seat_view c) → IsWaiting hold c
   waits_on c same made = record {
     same = seat_on hold b c told_seat same;

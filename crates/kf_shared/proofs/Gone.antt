@@ -1,4 +1,4 @@
--- A key that was linked and no longer is, is never linked again.
+-- A key that was linked, and is no longer linked, is never linked again.
 use Rattle.std.proofs.Common.{◌≡◌, ◌≢◌, ◌⊎◌, inl, inr, ℕ, ◌+◌, ◌≤◌, refl, ap, arith, ⊎_elim, sym, ◌∙◌, subst, true, false, cond}
 use Rattle.std.specs.Prelude.{Option, None, Some, slice_get, is_some}
 use Rattle.std.proofs.lemmas.Option.{none-some, same_Some, slice_get_within}
@@ -20,12 +20,12 @@ use Rattle.kf_words.specs.declared.sight.StepKind.{StepKind}
 use Rattle.kf_words.proofs.WordSteps.{Alone, TakenOut, Came, Passed}
 use Rattle.kf_words.proofs.Runs.{alone_come}
 
--- the key is not linked, and its slot has come to its generation
+-- the key is not linked, and its slot has reached the key's generation
 pub record Gone (w : BareWorld) (key : Key) : Type 0 where
   pub unlinked : marks w key ≡ None
   pub come : HasCome w key
 
--- another key of its slot, or one of another slot, gets these marks
+-- if another key gets these marks, a key that is not linked stays so
 elsewhere : (w : BareWorld) (key k : Key) (m : Option NodeFlags) (p : SlotState) → slice_get w.slots key.slot ≡ Some p → key ≢ k → marks w k ≡ None → marks (with_marks w key m) k ≡ None
 elsewhere w key k m p there other none = elim (eqb_tells k.slot key.slot) [
   | inl s ↦ ap (λ x. marks_in (slice_get (with_marks w key m).slots x) k.generation) s.1
@@ -37,7 +37,7 @@ elsewhere w key k m p there other none = elim (eqb_tells k.slot key.slot) [
   | inr n ↦ ap (λ o. marks_in o k.generation) (slice_get-set_other w.slots key.slot k.slot _ n.1) ∙ none
 ]
 
--- the slot of a linked key is there
+-- the slot of a linked key has a state
 its_slot : (o : Option SlotState) (generation : ℕ) (m : NodeFlags) → marks_in o generation ≡ Some m → (p : SlotState) × (o ≡ Some p)
 its_slot None generation m e = absurd (none-some m e)
 its_slot (Some p) generation m e = (p, refl)
@@ -83,7 +83,7 @@ stays w (Undo c) w' k s g = subst (λ (x : BareWorld). marks x k ≡ None) (sym 
 pub step_gone : (w : BareWorld) (e : Event) (w' : BareWorld) (k : Key) → BareStep w e w' → Gone w k → Gone w' k
 step_gone w e w' k s g = record { unlinked = stays w e w' k s g; come = step_come w e w' k s g.come }
 
--- the same for a step of the Master that is no event
+-- the same for a change that is not one event
 pub alone_gone : (k : Key) (kind : StepKind) (w w' : BareWorld) → Alone kind w w' → Gone w k → Gone w' k
 alone_gone k kind w w' a g = record {
   unlinked = ⊎_elim

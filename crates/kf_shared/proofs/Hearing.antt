@@ -1,4 +1,4 @@
--- What is passed on before the unlock, and what a seat has seen since.
+-- What a seat is shown before the unlock, and what it has seen since.
 use Rattle.std.proofs.Common.{◌≡◌, ℕ, zero, suc, ◌-◌, Bool, true, false, List, [], ◌∷◌, ◌++◌, sym, ap, ◌∙◌, subst, append_assoc}
 use Rattle.std.proofs.lemmas.List.{append-nil}
 use mathlib.Core.List.{IsPrefix}
@@ -22,11 +22,11 @@ prefix_self xs = ([], append-nil xs)
 pub prefix_trans : {A : Type 0} (xs ys zs : List A) → IsPrefix xs ys → IsPrefix ys zs → IsPrefix xs zs
 prefix_trans xs ys zs p q = (p.0 ++ q.0, sym (append_assoc xs p.0 q.0) ∙ ap (λ l. l ++ q.0) p.1 ∙ q.1)
 
--- who has seen more of the run has seen more of the history
+-- a seat that has seen more of the run has seen more of the history
 pub more_told : (before after : Seen) → SawMore before after → IsPrefix (history_of before) (history_of after)
 more_told before after more = notes_begin before.steps after.steps more
 
--- a step of the seat goes on from what it had seen
+-- after a step, a seat has seen what it had seen before, and more
 pub made_more : (kind : ℕ → StepKind) (before after : CallerSight) → WasMade kind before after → SawMore before.seen after.seen
 made_more kind before after m = (
   m.between ++ kind m.caller ∷ [],
@@ -36,7 +36,7 @@ made_more kind before after m = (
 same_more : (before after : CallerSight) → after ≡ before → SawMore before.seen after.seen
 same_more before after e = subst (λ (s : CallerSight). SawMore before.seen s.seen) (sym e) (prefix_self before.seen.steps)
 
--- so does a rest
+-- the same for a rest
 pub rested_more : (counted : Bool) (before after : CallerSight) → Rested counted before after → SawMore before.seen after.seen
 rested_more true before after r = prefix_trans before.seen.steps r.0.seen.steps after.seen.steps (made_more _ before r.0 r.1) (made_more _ r.0 after r.2)
 rested_more false before after e = same_more before after e
@@ -48,7 +48,7 @@ looked_more kind test (suc count) before after l =
     (prefix_trans before.seen.steps l.0.seen.steps l.1.seen.steps (looked_more kind test count before l.0 l.2) (made_more kind l.0 l.1 l.3))
     (rested_more (test l.1.view.found) l.1 after l.4)
 
--- and a whole wait
+-- the same for a whole wait
 pub waited_more : (kind : ℕ → StepKind) (test : ℕ → Bool) (before after : CallerSight) → Waited kind test before after → SawMore before.seen after.seen
 waited_more kind test before after w =
     prefix_trans before.seen.steps w.1.seen.steps after.seen.steps (looked_more kind test w.0 before w.1 w.2) (made_more kind w.1 after w.3)
@@ -57,12 +57,12 @@ spent_more : (wanted : Bool) (before after : CallerSight) → WakeSpent wanted b
 spent_more true before after w = made_more _ before after w.1.0
 spent_more false before after e = same_more before after e
 
--- and a step with the wake that it owes
+-- the same for a step with the wake that it owes
 pub woken_more : (kind : ℕ → StepKind) (before after : CallerSight) → WasMadeThenWake kind before after → SawMore before.seen after.seen
 woken_more kind before after w =
     prefix_trans before.seen.steps w.0.seen.steps after.seen.steps (made_more kind before w.0 w.1) (spent_more (wants_wake (w.0.view.found - 1)) w.0 after w.2)
 
--- what a handle heard was passed on to it
+-- if only what a handle has seen has changed, its seat made no step
 pub heard_told : (before after : Handle) → HasHeard before after → SawMore before.seen after.seen → WasTold (seat_view before) (seat_view after)
 heard_told before after heard more = record { view = ap (λ (h : Handle). (seat_view h).view) heard; seen = more }
 

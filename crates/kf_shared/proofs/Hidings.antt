@@ -1,4 +1,4 @@
--- What the hiding on a guard says, whatever its lock kept.
+-- What the result of a hiding says, whatever tree the lock guarded.
 use Rattle.std.proofs.Common.{◌≡◌, ◌⊎◌, inl, inr, refl, sym, Bool, true, false, [], ◌∷◌}
 use Rattle.std.specs.Prelude.{Option, None, Some, Result, Ok, Err, IfErr, OnOk, not}
 use Rattle.std.proofs.lemmas.Option.{same_Some, none-some}
@@ -10,7 +10,7 @@ use Rattle.kf_tree.specs.Causes.{hide_cause, is_directory, is_link, doomed_in, h
 use Rattle.kf_words.specs.Callers.{Handle}
 use Rattle.kf_shared.specs.Hiding.{kind_cause, hold_cause, HideRefused, IsHideRefusal, HidingRefused}
 
--- the first cause of these
+-- the first of these causes is one of those that a hiding may be refused for
 hide_refusal : (a b c d e : Bool) (why : Refusal) → first_cause (unless a NoEntry ∷ unless b IsDir ∷ unless c Invalid ∷ unless d NoEntry ∷ unless e Busy ∷ []) ≡ Some why → IsHideRefusal why
 hide_refusal false b c d e why h = inl (sym (same_Some _ _ h))
 hide_refusal true false c d e why h = inr (inl (sym (same_Some _ _ h)))
@@ -19,7 +19,8 @@ hide_refusal true true true false e why h = inl (sym (same_Some _ _ h))
 hide_refusal true true true true false why h = inr (inr (inr (inl (sym (same_Some _ _ h)))))
 hide_refusal true true true true true why h = absurd (none-some why h)
 
--- a cause against the hiding of a hold is its kind's, or what the tree says of a file
+-- the hiding of a hold is refused because of the node's kind, or if the kind is right, because of what the
+-- tree says
 told : (kind rest : Option Refusal) (why : Refusal) → (rest ≡ Some why → IsHideRefusal why) → first_cause (kind ∷ rest ∷ []) ≡ Some why → (kind ≡ Some why) ⊎ ((kind ≡ None) × IsHideRefusal why)
 told (Some x) rest why f h = inl h
 told None (Some x) why f h = inr (refl, f h)

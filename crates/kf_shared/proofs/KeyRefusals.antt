@@ -1,4 +1,4 @@
--- Why the removal of a key's node is refused, and what the lock keeps then.
+-- Why the removal of a key's node is refused, and what the lock guards then.
 use Rattle.std.proofs.Common.{◌≡◌, ◌⊎◌, inl, inr, ℕ, refl, ap, sym, ◌∙◌, subst, Bool, true, false, List, [], ◌∷◌, ◌++◌}
 use Rattle.std.specs.Prelude.{None, MatchBool, not}
 use Rattle.std.proofs.lemmas.Bool.{MatchBool-at_true, MatchBool-at_false}
@@ -26,14 +26,14 @@ use Rattle.kf_shared.proofs.Ties.{locked, tied_master}
 use Rattle.kf_shared.proofs.Pins.{doom_cause_of_root}
 use Rattle.kf_shared.proofs.Refusals.{removal_refused}
 
--- nothing is against the doom of a key: so it is linked, and not the root
+-- if no cause refuses the doom of a key, the key is linked and is not the root
 pub linked_to_doom : (t : Tree) (root key : Key) → doom_cause t root key ≡ None → is_linked t key ≡ true
 linked_to_doom t root key none = elim (is_linked t key) as (λ b. is_linked t key ≡ b → b ≡ true) [
   | true ↦ λ e. refl
   | false ↦ λ e. absurd (none-some NoEntry (sym none ∙ ap (λ b. first_cause (unless b NoEntry ∷ unless (not (same_key key root)) Invalid ∷ [])) e))
 ] refl
 
--- a pin is refused for a slot that is full, or for lack of memory
+-- a pin is refused because its slot is full, or for lack of memory
 pin_refusal : (m : MasterView) (slot : ℕ) (why : Refusal) (m' : MasterView) → PinRefused m slot why m' → HoldsRefusal why
 pin_refusal m slot TooManyHolds m' h = inl refl
 pin_refusal m slot NoMemory m' h = inr refl
@@ -48,14 +48,14 @@ pin_refusal m slot Invalid m' h = absurd h
 pin_refusal m slot NoSpace m' h = absurd h
 pin_refusal m slot NameTooLong m' h = absurd h
 
--- a hold of a linked node was refused, and so was its removal
+-- if a hold of a linked node was refused, so was the node's removal
 pub hold_key_refused : (s : TreeLog) (old new : Locked) (key : Key) (why told : Refusal) → s ≡ old.state → told ≡ why → doom_cause s.tree s.root key ≡ None → HoldRefused old new key why → KeyRefused old.state key told
 hold_key_refused s old new key why told same e none h =
     let cause : doom_cause old.state.tree old.state.root key ≡ None = subst (λ (l : TreeLog). doom_cause l.tree l.root key ≡ None) same none in
     subst (KeyRefused old.state key) (sym e)
     (inr (cause, pin_refusal old.master.view key.slot why new.master.view (MatchBool-at_true _ _ (linked_to_doom old.state.tree old.state.root key cause) h)))
 
--- the doom of the hold's node was refused
+-- if the doom of the hold's node was refused, so was the removal of the key's node
 pub doom_key_refused : (s : TreeLog) (old mid new : Locked) (held key : Key) (why : Refusal) → s ≡ old.state → doom_cause s.tree s.root key ≡ None → mid.state ≡ old.state → held ≡ key → DoomRefused mid new held why → KeyRefused old.state key why
 doom_key_refused s old mid new held key why same none between is h =
     let cause : doom_cause old.state.tree old.state.root key ≡ None = subst (λ (l : TreeLog). doom_cause l.tree l.root key ≡ None) same none in
@@ -69,7 +69,7 @@ doom_key_refused s old mid new held key why same none between is h =
     told true true e f none m = absurd (none-some Invalid (sym none ∙ doom_cause_of_root old.state.tree old.state.root key e f))
     told true false e f none m = elim (MatchBool-at_false _ _ f (MatchBool-at_true _ _ e m)) [ inl full ↦ inl full.0 | inr memory ↦ inr memory ]
 
--- the doom of the hold's node gave holds of the key's subtree, each after all that is below it
+-- the doom of the hold's node gave holds of the key's subtree, in post-order
 pub doom_key_ordered : (s : TreeLog) (old mid : Locked) (hold : Handle) (holds : List Handle) (key : Key) → s ≡ old.state → doom_cause s.tree s.root key ≡ None → mid.state ≡ old.state → hold.key ≡ key → DoomHolds mid.state.tree hold holds
     → IsPostOrder old.state.tree key (keys_of holds)
 doom_key_ordered s old mid hold holds key same none between is order =
@@ -78,7 +78,7 @@ doom_key_ordered s old mid hold holds key same none between is order =
     MatchBool-at_true _ _ (linked_to_doom old.state.tree old.state.root key cause)
     (subst (λ (k : Key). MatchBool (is_linked old.state.tree k) (IsPostOrder old.state.tree k (keys_of holds)) (holds ≡ hold ∷ [])) is there)
 
--- the doom of the hold's node was accepted, as one of the key
+-- the doom of the hold's node is a doom of the key that was accepted
 pub doom_key_done : (s : TreeLog) (old mid new : Locked) (held key : Key) → s ≡ old.state → doom_cause s.tree s.root key ≡ None → mid.state ≡ old.state → held ≡ key → DoomDone mid new held
     → IsAccepted old.state new.state (doom_cause old.state.tree old.state.root key) (Doom key)
 doom_key_done s old mid new held key same none between is done =
@@ -87,7 +87,7 @@ doom_key_done s old mid new held key same none between is done =
     subst (λ k. DoomDone (locked old.state mid.links mid.master mid.claims) new k) is (subst (λ (l : TreeLog). DoomDone (locked l mid.links mid.master mid.claims) new held) between done) in
     MatchBool-at_true _ _ (linked_to_doom old.state.tree old.state.root key cause) there
 
--- and noted
+-- the doom of the hold's node was noted as a doom of the key
 pub doom_key_noted : (s : TreeLog) (old mid new : Locked) (held key : Key) → s ≡ old.state → doom_cause s.tree s.root key ≡ None → mid.state ≡ old.state → history mid ≡ history old → held ≡ key → DoomNoted mid new held
     → Adds old new (Did (Doom key))
 doom_key_noted s old mid new held key same none between kept is noted =
@@ -96,7 +96,7 @@ doom_key_noted s old mid new held key same none between kept is noted =
     subst (λ k. DoomNoted (locked old.state mid.links mid.master mid.claims) new k) is (subst (λ (l : TreeLog). DoomNoted (locked l mid.links mid.master mid.claims) new held) between noted) in
     MatchBool-at_true _ _ (linked_to_doom old.state.tree old.state.root key cause) there ∙ ap (λ l. l ++ Did (Doom key) ∷ []) kept
 
--- the lock keeps what it kept, if the tree and what the Master knows of nodes stayed
+-- what the lock guards is still whole, if the tree, the claims and what the Master knows of nodes have stayed
 pub whole_kept : (table : TableId) (old new : Locked) → IsWhole table old → new.state ≡ old.state → KeepsNodes old.master new.master → new.claims ≡ old.claims → IsWhole table new
 whole_kept table old new whole state words claims = record {
   kept = subst IsKept (sym state) whole.kept;

@@ -1,4 +1,4 @@
--- What look-ups have seen is of the run, as all links are.
+-- The links that look-ups have seen are of the run, as all links are.
 use Rattle.std.proofs.Common.{◌≡◌, ℕ, List, refl, sym, ◌∙◌, subst}
 use Rattle.kf_looks.specs.declared.view.Link.{Link}
 use Rattle.kf_looks.specs.Links.{IsLater}
@@ -19,7 +19,7 @@ module _ (slots : ℕ) (words : Table) (s : Locked) (its : AreItsWords slots wor
   later_run : (seen : List Link) → IsLater s.links seen → AreOfRun s.state.root seen (history s)
   later_run seen later = run_earlier s.state.root later.0 seen (history s) (subst (λ links. AreOfRun s.state.root links (history s)) later.1 its.led)
 
-  -- what a seat has seen
+  -- the links that a seat has seen are of the run
   seen_run : (seat : ℕ) (seen : List Link) → HasSeen words seat seen → AreOfRun s.state.root seen (history s)
   seen_run seat seen has =
       let later : IsLater its.kept.links has.0.seen = (its.kept.seats seat has.0 has.1).2 in

@@ -1,4 +1,4 @@
--- The turns of the lock that a removal takes once it has to wait.
+-- The turns under the lock that a removal takes once it has to wait.
 use Rattle.std.proofs.Common.{◌≡◌, ℕ, zero, suc, ◌+◌, ◌≤◌, inl, inr, List, [], ◌∷◌, ◌++◌, ◌<◌, length, get_or, set, take, drop, refl, sym, ap, ◌∙◌, subst, arith}
 use Rattle.std.specs.Prelude.{◌⊎◌, All, Option}
 use Rattle.std.specs.Option.{option_to_list}
@@ -19,7 +19,7 @@ use Rattle.kf_shared.proofs.Hearing.{more_told, prefix_self, prefix_trans}
 use Rattle.kf_shared.proofs.Turns.{same_owner_tables}
 use Rattle.kf_shared.proofs.Stepped.{stays_heard, stays_more, stays_on, stays_self}
 
--- one unlink more came
+-- one more unlink came
 unlinked_more : (notes : List Note) (keys : List Key) (key : Key) → unlinked_each notes (keys ++ key ∷ []) ≡ unlinked (unlinked_each notes keys) key
 unlinked_more notes [] key = refl
 unlinked_more notes (k ∷ keys) key = unlinked_more (unlinked notes k) keys key
@@ -82,7 +82,7 @@ module _ (found now : List Note) (holds before receipts : List Handle) (next : H
     receipts_are = each_more Stays t.turned.done t.turned.made t.was parted t.turned.receipts_are (stays_on t.was next parted t.next_is stays);
   }
 
-  -- it was the last, since the turn is full, or since its unlink was refused
+  -- it is the last of the turn, since the turn is full or since the unlink was refused
   pub ended_before : (now' : List Note) (back : Handle) → count ≤ 64 → now' ≡ now → Stays next back → WereUnlinked found now' holds before receipts (back ∷ left)
   ended_before now' back few same stays = record {
     done = t.turned.done;
@@ -100,7 +100,7 @@ module _ (found now : List Note) (holds before receipts : List Handle) (next : H
     left_are = (stays_on t.was next back t.next_is stays, each_self Stays stays_self left);
   }
 
-  -- or it was unlinked, and found linked all the same
+  -- or it was unlinked, but was still found linked
   pub ended_after : (now' : List Note) (back : Handle) → suc count ≤ 64 → now' ≡ unlinked now next.key → Stays next back → WereUnlinked found now' holds before receipts (back ∷ left)
   ended_after now' back few noted stays = record {
     done = t.turned.done;
@@ -155,7 +155,7 @@ of_middle : (table : TableId) (front : List Handle) (x : Handle) (rest : List Ha
 of_middle table [] x rest all = all 0 x (omega arith)
 of_middle table (y ∷ front) x rest all = of_middle table front x rest (λ i d l. all (suc i) d (omega (arith, l)))
 
--- the first of these, as many as this, have met the Master
+-- this many of these holds, from the first one on, have met the Master
 pub record MetSome (notes : List Note) (first now : List Handle) (count : ℕ) : Type 0 where
   pub done : List Handle
   pub met : List Handle
@@ -190,7 +190,7 @@ met_all notes first now count m all = go m.rest m.was m.is
     go [] was is = subst (λ l. Each (Learned notes) l now) (sym (was ∙ append-nil m.done)) (subst (Each (Learned notes) m.done) (sym (is ∙ append-nil m.met)) m.each)
     go (x ∷ rest) was is = absurd (let n = ap length is in let e = length-append m.met (x ∷ rest) in let l = m.long in omega (arith, n, e, l, all))
 
--- the table of the next of them
+-- the next of them is of the table
 pub next_table : (table : TableId) (notes : List Note) (first now : List Handle) (count : ℕ) (d : Handle) → AreOf table first → MetSome notes first now count → count < length now → (get_or now count d).table ≡ table
 next_table table notes first now count d all m inside = go m.rest m.was m.is
   where
@@ -229,7 +229,7 @@ pub of_first : (table : TableId) (first : Handle) (holds : List Handle) → firs
 of_first table first holds e a zero d l = e
 of_first table first holds e a (suc i) d l = a i d (omega (arith, l))
 
--- what a slice was cut into
+-- the two parts of a slice that was cut
 pub cut : (before made whole front back : List Handle) (at : ℕ) → whole ≡ before ++ made → front ≡ take at whole → back ≡ drop at whole → length before ≡ at → (front ≡ before) × (back ≡ made)
 cut before made whole front back at is f b long = (
   f ∙ ap (take at) is ∙ take_at before made at long,
@@ -260,7 +260,7 @@ long_alike R [] (y ∷ ys) e = absurd e
 long_alike R (x ∷ xs) [] e = absurd e
 long_alike R (x ∷ xs) (y ∷ ys) e = (let n = long_alike R xs ys e.1 in omega (arith, n))
 
--- then the release of the lock was noted, and the receipts and the first of those that are left learned of
+-- then the release of the lock was noted, and the receipts and the first of those that are left have now seen
 -- that
 pub turn_shut : (found after : List Note) (holds before receipts left made receipts' left' : List Handle) (notes : List Note) (u : WereUnlinked found after holds before receipts left)
     → Each (Learned notes) u.made made → receipts' ≡ before ++ made → FirstLearned notes left left' → notes ≡ after ++ LockReleased ∷ [] → WasTurn found holds before receipts' left'

@@ -1,4 +1,4 @@
--- The Master's node of each linked record's slot is the record's node, and each command keeps it so.
+-- For the slot of each linked record, the Master has the record's node, and each command keeps it so.
 use Rattle.std.proofs.Common.{◌≡◌, ◌≢◌, inl, inr, ℕ, ◌<◌, refl, ap, sym, ◌∙◌, subst, Bool, true, false, cond, List, length, slice_set}
 use Rattle.std.specs.Prelude.{Option, None, Some, slice_get, map, ◌&&◌, not, if◌then◌else◌}
 use Rattle.std.specs.Option.{option_map}
@@ -17,7 +17,7 @@ use Rattle.kf_core.proofs.FoundRecords.{in_found, found_in, find_at, find_cleare
 use Rattle.std.proofs.lemmas.Option.{slice_get_within}
 use Rattle.kf_shared.specs.Agreement.{HasNodes}
 
--- a change of records that leaves their keys and nodes
+-- a change that leaves the keys and nodes of records keeps it so
 nodes_mapped : (nodes : List Node) (t : Tree) (g : Record → Record) → ((r : Record) → (g r).key ≡ r.key) → ((r : Record) → (g r).node ≡ r.node) → HasNodes nodes t → HasNodes nodes (map (option_map g) t)
 nodes_mapped nodes t g same_keys same_nodes h k r e = go (record_at t k) refl (sym (find_mapped t g same_keys k) ∙ e)
   where
@@ -25,7 +25,7 @@ nodes_mapped nodes t g same_keys same_nodes h k r e = go (record_at t k) refl (s
     go None f i = absurd (none-some r i)
     go (Some x) f i = h k x f ∙ ap (λ n. Some n) (sym (same_nodes x) ∙ ap (λ (y : Record). y.node) (same_Some (g x) r i))
 
--- a change of some records
+-- the same for a change of some records
 nodes_changed : (nodes : List Node) (t : Tree) (chosen : Record → Bool) (f : Record → Record) → ((r : Record) → (f r).key ≡ r.key) → ((r : Record) → (f r).node ≡ r.node) → HasNodes nodes t →
     HasNodes nodes (map (option_map (λ r. if chosen r then f r else r)) t)
 nodes_changed nodes t chosen f same_keys same_nodes = nodes_mapped nodes t (λ r. cond (chosen r) (f r) r)
@@ -55,7 +55,7 @@ nodes_unlinked nodes t key linked h =
       | inr n ↦ h k r (sym (find_cleared t x k i (λ s. n.1 (sym s))) ∙ e)
     ]
 
--- a new record in a vacant slot, with its node
+-- a new record in a vacant slot keeps it so, if its node is stored for the slot
 pub nodes_created : (nodes : List Node) (t : Tree) (key parent : Key) (name : List ℕ) (node : Node) (is_live : Bool) → slice_get t key.slot ≡ Some None → length nodes ≡ length t → HasNodes nodes t →
     HasNodes (slice_set nodes key.slot node) (after t (Create key parent name node is_live))
 nodes_created nodes t key parent name node is_live v wide h k r e = elim (keys_tell key k) [

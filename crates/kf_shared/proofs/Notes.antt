@@ -1,4 +1,5 @@
--- One note more in the history: the tree, the claims and the stored commands are still those of it.
+-- After one more note in the history, the tree, the claims and the stored commands are still those of the
+-- history.
 use Rattle.std.proofs.Common.{◌≡◌, inl, inr, ℕ, false, List, [], ◌∷◌, ◌++◌, length, refl, sym, ap, ◌∙◌, subst, ⊎_elim, append_assoc, slice_set, replicate}
 use Rattle.std.proofs.lemmas.List.{append-nil}
 use Rattle.std.specs.Prelude.{Option}
@@ -23,7 +24,7 @@ commands_did (Began slots root ∷ notes) c = commands_did notes c
 commands_did (LockTaken ∷ notes) c = commands_did notes c
 commands_did (LockReleased ∷ notes) c = commands_did notes c
 
--- a note of no command
+-- a note that is not of a command
 module _ (note : Note) (none : commands_of (note ∷ []) ≡ []) where
   commands_else : (notes : List Note) → commands_of (notes ++ note ∷ []) ≡ commands_of notes
   commands_else [] = none
@@ -34,7 +35,7 @@ module _ (note : Note) (none : commands_of (note ∷ []) ≡ []) where
   commands_else (LockTaken ∷ notes) = commands_else notes
   commands_else (LockReleased ∷ notes) = commands_else notes
 
--- a note of no compaction
+-- a note that is not of a compaction
 module _ (note : Note) (none : compacts (note ∷ []) ≡ false) where
   compacts_else : (notes : List Note) → compacts (notes ++ note ∷ []) ≡ compacts notes
   compacts_else [] = none
@@ -58,7 +59,7 @@ last_stored_more [] c = refl
 last_stored_more (d ∷ []) c = refl
 last_stored_more (d ∷ e ∷ cs) c = last_stored_more (e ∷ cs) c
 
--- a longer history of which the tree is the same
+-- two states with the same root and equally many slots
 module _ (s s' : TreeLog) (root : s'.root ≡ s.root) (long : length s'.tree ≡ length s.tree) where
   tree_here : (notes : List Note) → tree_of (length s.tree) s.root notes ≡ tree_of (length s'.tree) s'.root notes
   tree_here notes = ap (λ n. tree_of n s.root notes) (sym long) ∙ ap (λ k. tree_of (length s'.tree) k notes) (sym root)
@@ -69,7 +70,7 @@ module _ (s s' : TreeLog) (root : s'.root ≡ s.root) (long : length s'.tree ≡
   claims_here : (notes : List Note) → claims_of (length s.tree) notes ≡ claims_of (length s'.tree) notes
   claims_here notes = ap (λ n. claims_of n notes) (sym long)
 
--- one note more
+-- one more note leaves the beginning of the history
 begins_more : (slots : ℕ) (root : Key) (notes : List Note) (note : Note) → BeginsWith slots root notes → BeginsWith slots root (notes ++ note ∷ [])
 begins_more slots root notes note b = (b.0 ++ note ∷ [], ap (λ l. l ++ note ∷ []) b.1)
 
@@ -138,7 +139,7 @@ noted_compacted s s' claims notes t a = record {
     now : s'.tree ≡ tree_of (length s'.tree) s'.root notes
     now = a.same_tree ∙ t.tree ∙ tree_here s s' a.same_root long notes
 
--- the tree's root, tree and commands are as before
+-- if the root, the tree and the commands are as before, they are still those of the history
 pub noted_same : (s s' : TreeLog) (claims : List ℕ) (notes : List Note) → IsNoted s claims notes → s'.root ≡ s.root → s'.tree ≡ s.tree → s'.commands ≡ s.commands → IsNoted s' claims notes
 noted_same s s' claims notes t root tree commands = record {
   began = begins_here s s' root long notes t.began;
@@ -161,13 +162,13 @@ noted_same s s' claims notes t root tree commands = record {
     long : length s'.tree ≡ length s.tree
     long = ap length tree
 
--- a note that is of no command, no compaction and no claim
+-- a note that is not of a command, a compaction or a claim
 pub record IsBare (note : Note) : Type 0 where
   pub commands : commands_of (note ∷ []) ≡ []
   pub compactions : compacts (note ∷ []) ≡ false
   pub claims : (claims : List ℕ) → claims_after claims note ≡ claims
 
--- the lock was taken, and it is about to be released
+-- the two borders are such notes: that the lock was taken, and that it is about to be released
 pub bare_taken : IsBare LockTaken
 bare_taken = record { commands = refl; compactions = refl; claims = λ claims. refl }
 
@@ -202,10 +203,10 @@ noted_opening slots root s claims new long none = record {
   stored = inl (refl, new.commands);
 }
 
--- so only the history determines the tree
+-- the history determines the tree
 pub tree_told : (s : TreeLog) (claims : List ℕ) (notes : List Note) → IsNoted s claims notes → s.tree ≡ tree_in notes
 tree_told s claims notes t = t.tree ∙ ap (tree_of (length s.tree) s.root) t.began.1 ∙ sym (ap tree_in t.began.1)
 
--- and the claims
+-- the history determines the claims
 pub claims_told : (s : TreeLog) (claims : List ℕ) (notes : List Note) → IsNoted s claims notes → claims ≡ claims_in notes
 claims_told s claims notes t = t.claimed ∙ ap (claims_of (length s.tree)) t.began.1 ∙ sym (ap claims_in t.began.1)

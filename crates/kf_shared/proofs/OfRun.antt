@@ -1,4 +1,4 @@
--- What was said to look-ups is what trees of the run had, also after more notes and more links.
+-- What the links for look-ups lead to was in trees of the run, also after more notes and more links.
 use Rattle.std.proofs.Common.{◌≡◌, ℕ, List, [], ◌∷◌, ◌++◌, sym, subst}
 use Rattle.std.proofs.lemmas.Option.{none-some}
 use mathlib.Core.List.{IsPrefix}
@@ -18,7 +18,7 @@ pub run_longer : (root : Key) (links : List Link) (notes more : List Note) → I
 run_longer root [] notes more longer a = (a.0, prefix_trans a.0 notes more a.1 longer, a.2)
 run_longer root (l ∷ older) notes more longer a = (a.0, prefix_trans a.0 notes more a.1 longer, a.2, a.3)
 
--- the tree is that of this history, and links were made of it
+-- the tree is that of this history, and links were made from it
 module _ (s : TreeLog) (claims : List ℕ) (notes : List Note) (noted : IsNoted s claims notes) where
   led_now : (links : List Link) → LeadAs s.tree s.root links → LeadInRun s.root links notes
   led_now links = subst (λ t. LeadAs t s.root links) (tree_told s claims notes noted)
@@ -35,13 +35,14 @@ module _ (s : TreeLog) (claims : List ℕ) (notes : List Note) (noted : IsNoted 
   run_opening links lawful none = subst (λ ls. AreOfRun s.root ls notes) (sym none)
       (notes, prefix_self notes, led_now [] (led_as s.tree s.root lawful [] (λ dir name found is. absurd (none-some found is))))
 
--- the first of these beginnings, and what was said up to that
+-- whatever the links lead to was in the tree that some beginning of the history made, and the links are of
+-- that beginning
 pub run_part : (root : Key) (links : List Link) (notes : List Note) → AreOfRun root links notes
     → (part : List Note) × IsPrefix part notes × LeadInRun root links part × AreOfRun root links part
 run_part root [] notes a = (a.0, a.1, a.2, (a.0, prefix_self a.0, a.2))
 run_part root (l ∷ older) notes a = (a.0, a.1, a.2, (a.0, prefix_self a.0, a.2, a.3))
 
--- what had been said earlier
+-- the earlier links are of the run, too
 pub run_earlier : (root : Key) (newer before : List Link) (notes : List Note) → AreOfRun root (newer ++ before) notes → AreOfRun root before notes
 run_earlier root [] before notes a = a
 run_earlier root (l ∷ newer) before notes a = run_longer root before a.0 notes a.1 (run_earlier root newer before a.0 a.3)

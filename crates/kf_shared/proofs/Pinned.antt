@@ -1,4 +1,4 @@
--- One hold more, while several nodes are pinned.
+-- One more hold, while several nodes are pinned.
 use Rattle.std.proofs.Common.{◌≡◌, ℕ, ◌+◌, ◌<◌, refl, ap, sym, ◌∙◌, subst, List, [], ◌∷◌, ◌++◌, length, take, get_or, All}
 use Rattle.std.specs.Prelude.{slice_get}
 use Rattle.std.proofs.lemmas.List.{take_more}
@@ -18,7 +18,7 @@ pub keys_pinned : (keys : List Key) (i : ℕ) (d : Key) (old new : List Handle) 
 keys_pinned keys i d old new hold is before key near =
     ap keys_of is ∙ keys_more old (hold ∷ []) ∙ ap (λ ks. ks ++ hold.key ∷ []) before ∙ ap (λ k. take i keys ++ k ∷ []) key ∙ sym (take_more keys i d near)
 
--- each of them is a new one
+-- each of the holds is a new one
 pub new_pinned : (a b : MasterState) (old new : List Handle) (hold : Handle) (key : Key) → new ≡ old ++ hold ∷ [] → KeepsNodes a b → All (IsNew a) old → IsNewHold b key hold → All (IsNew a) new
 new_pinned a b old new hold key is kept before h = subst (All (IsNew a)) (sym is) (All-push (IsNew a) old hold before (record {
   table = h.table ∙ kept.table;

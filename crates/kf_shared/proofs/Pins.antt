@@ -23,14 +23,14 @@ use Rattle.kf_shared.proofs.Ties.{locked}
 use Rattle.kf_core.proofs.Different.{different}
 use Rattle.kf_shared.specs.Removal.{keys_of, FoundFullBelow, HoldsBelowRefused, HoldsInRefused, DoomGivenUp, DoomRefused, SelfRemovalRefused, DoomHolds}
 
--- what is asked at either result of a test
+-- what must be shown in each of the two cases of a test
 pub if_true : {b : Bool} (P Q : Type 0) → b ≡ true → P → MatchBool b P Q
 if_true P Q e p = subst (λ b. MatchBool b P Q) (sym e) p
 
 pub if_false : {b : Bool} (P Q : Type 0) → b ≡ false → Q → MatchBool b P Q
 if_false P Q e q = subst (λ b. MatchBool b P Q) (sym e) q
 
--- if there is no cause, only memory was lacking
+-- if no cause refuses it, only memory was lacking
 pub only_memory : (cause : Option Refusal) (refusal : Refusal) → cause ≡ None → Refuses cause refusal → refusal ≡ NoMemory
 only_memory cause refusal none h = elim h [ inl e ↦ absurd (none-some refusal (sym none ∙ e)) | inr m ↦ m.1 ]
 
@@ -47,14 +47,14 @@ doom_cause_of_root t root key linked same =
     ap (λ b. first_cause (unless b NoEntry ∷ unless (not (same_key key root)) Invalid ∷ [])) linked
     ∙ ap (λ b. first_cause (unless true NoEntry ∷ unless (not b) Invalid ∷ [])) same
 
--- what is asked of a linked key before its doom: that it is not the root
+-- a linked key that may be doomed is not the root
 pub not_the_root : (t : Tree) (root key : Key) → is_linked t key ≡ true → doom_cause t root key ≡ None → same_key key root ≡ false
 not_the_root t root key linked none = elim (same_key key root) as (λ b. same_key key root ≡ b → b ≡ false) [
   | true ↦ λ e. absurd (none-some Invalid (sym none ∙ doom_cause_of_root t root key linked e))
   | false ↦ λ e. refl
 ] refl
 
--- the root is refused
+-- the doom of the root is refused
 pub root_refused : (old new : Locked) (key : Key) → is_linked old.state.tree key ≡ true → same_key key old.state.root ≡ true → DoomRefused old new key Invalid
 root_refused old new key linked same = if_true _ _ linked (if_true _ _ same refl)
 
@@ -65,11 +65,11 @@ cause_refused old new key refusal linked cause = go (same_key key old.state.root
     go true e = if_true _ _ linked (if_true _ _ e (same_Some refusal Invalid (sym cause ∙ doom_cause_of_root old.state.tree old.state.root key linked e)))
     go false e = absurd (none-some refusal (sym (no_doom_cause old.state.tree old.state.root key linked e) ∙ cause))
 
--- what stands in post-order is below the top
+-- each key of a post-order is in the subtree of its top
 below_top : (t : Tree) (top key : Key) (keys : List Key) → IsPostOrder t top keys → Contains keys key → in_subtree t top key ≡ true
 below_top t top key keys order h = ((order.members key).0 h).1
 
--- a node of the front of a post-order is below its top
+-- if a node before the last of a post-order is full, a node below the top is
 pub full_below : (s : TreeLog) (m : MasterView) (top : Key) (keys below seen : List Key) → IsKept s → IsPostOrder s.tree top keys → keys ≡ below ++ top ∷ [] → seen ≡ below
     → (key : Key) → Contains seen key → FoundFull m key.slot → FoundFullBelow s.tree top m
 full_below s m top keys below seen kept order parts is key h full =
@@ -80,11 +80,11 @@ full_below s m top keys below seen kept order parts is key h full =
       full,
     )
 
--- what refuses the doom in a state, refuses it in the same one
+-- what refuses the doom in one state refuses it in an equal state
 pub same_refused : (old mid new : Locked) (key : Key) (refusal : Refusal) → mid.state ≡ old.state → DoomRefused mid new key refusal → DoomRefused old new key refusal
 same_refused old mid new key refusal same h = subst (λ (s : TreeLog). DoomRefused (locked s mid.links mid.master mid.claims) new key refusal) same h
 
--- what was said of a tree and a view is said of the same tree
+-- what refuses holds below a node of one tree refuses them in an equal tree
 pub same_tree : (s s' : TreeLog) (m : MasterView) (top : Key) (refusal : Refusal) → s ≡ s' → HoldsBelowRefused s.tree top m refusal → HoldsBelowRefused s'.tree top m refusal
 same_tree s s' m top refusal e h = subst (λ (x : TreeLog). HoldsBelowRefused x.tree top m refusal) e h
 
@@ -96,7 +96,7 @@ keys_more (x ∷ xs) ys = ap (λ ks. x.key ∷ ks) (keys_more xs ys)
 pub doom_holds : (t : Tree) (hold : Handle) (pins : List Handle) → is_linked t hold.key ≡ true → IsPostOrder t hold.key (keys_of pins ++ hold.key ∷ []) → DoomHolds t hold (pins ++ hold ∷ [])
 doom_holds t hold pins linked order = if_true _ _ linked (subst (IsPostOrder t hold.key) (sym (keys_more pins (hold ∷ []))) order)
 
--- why a pin was refused, and what that says of several
+-- why a pin was refused, which is why the pins of several nodes were refused
 pub why_refused : (m m' : MasterView) (keys : List Key) (key : Key) (refusal : Refusal) → Contains keys key → PinRefused m key.slot refusal m' → (refusal ≡ TooManyHolds → FoundFull m' key.slot) →
     (refusal ≡ NoMemory) ⊎ ((refusal ≡ TooManyHolds) × ((k : Key) × Contains keys k × FoundFull m' k.slot))
 why_refused m m' keys key TooManyHolds h p full = inr (refl, (key, h, full refl))
@@ -112,7 +112,7 @@ why_refused m m' keys key Invalid h p full = absurd p
 why_refused m m' keys key NoSpace h p full = absurd p
 why_refused m m' keys key NameTooLong h p full = absurd p
 
--- a hold of the call's own node was refused
+-- if a hold of the call's own node was refused, so was the self-removal
 pub held_refused : (old new : Locked) (held : MasterState) (key : Key) (why refusal : Refusal) → same_key key old.state.root ≡ false
     → HeldPinRefused old.master.view key why held.view → (why ≡ TooManyHolds → FoundFull held.view key.slot)
     → (why ≡ NoMemory → HoldsInRefused old.state.tree key new.master.view refusal) → (why ≢ NoMemory → (refusal ≡ why) × (new.master ≡ held)) → SelfRemovalRefused old new key refusal
@@ -142,7 +142,7 @@ pins_given_up s s' m top keys below seen kept order parts is none same linked re
       | inr f ↦ inl (f.0, full_below s m top keys below seen kept order parts is f.1.0 f.1.1 f.1.2)
     ])))
 
--- a hold of the call's own node was refused, and not for lack of memory
+-- the same if the refusal was not for lack of memory
 pub held_met : (s : TreeLog) (links : List Link) (m held : MasterState) (claims : List ℕ) (now : Locked) (key : Key) (why told : Refusal) → locked s links m claims ≡ now → told ≡ why → same_key key now.state.root ≡ false
     → HeldPinRefused m.view key why held.view → (why ≡ TooManyHolds → FoundFull held.view key.slot) → told ≢ NoMemory → SelfRemovalRefused now (locked s links held claims) key told
 held_met s links m held claims now key why told is e other h full n =

@@ -56,7 +56,7 @@ first_of table items rest hold e a = subst (AreOf table) e a 0 hold (omega arith
 pub of_rest : (table : TableId) (items rest : List Handle) (hold : Handle) → items ≡ hold ∷ rest → AreOf table items → AreOf table rest
 of_rest table items rest hold e a i d l = subst (AreOf table) e a (suc i) d (omega (arith, l))
 
--- one hold more is finished
+-- one more hold is finished
 pub next_finished : (table : TableId) (items rest receipts new : List Handle) (hold parted : Handle) (all : List Owner) → items ≡ hold ∷ rest → new ≡ receipts ++ parted ∷ [] → IsSameSeat hold parted →
     AreOf table items → AreOf table receipts → owners_of receipts ++ owners_of items ≡ all → AreOf table rest × AreOf table new × (owners_of new ++ owners_of rest ≡ all)
 next_finished table items rest receipts new hold parted all e n same a b h = (
@@ -66,7 +66,7 @@ next_finished table items rest receipts new hold parted all e n same a b h = (
       ∙ ap (λ x. owners_of receipts ++ x ∷ owners_of rest) (same_owner hold parted same) ∙ sym (ap (λ xs. owners_of receipts ++ owners_of xs) e) ∙ h,
 )
 
--- what has the same owners has the same keys
+-- handles with the same owners have the same keys
 pub same_owner_keys : (xs ys : List Handle) → owners_of xs ≡ owners_of ys → keys_of xs ≡ keys_of ys
 same_owner_keys xs ys e = owner_keys xs ∙ ap (map (λ (o : Owner). o.key)) e ∙ sym (owner_keys ys)
 
@@ -74,11 +74,11 @@ same_owner_keys xs ys e = owner_keys xs ∙ ap (map (λ (o : Owner). o.key)) e �
 pub are_of : (table : TableId) (m : MasterState) (hold : Handle) (holds : List Handle) → m.table ≡ table → hold.table ≡ table → AreHolds m hold holds → AreOf table holds
 are_of table m hold holds e t h = subst (AreOf table) (sym h.2) (of_more table h.0 h.1 (λ i d l. (h.4 i d l).table ∙ e) (ap (λ (x : Handle). x.table) h.3 ∙ t))
 
--- a single hold is the last of no others
+-- a single hold is the last of the holds, with no others before it
 pub alone_holds : (m : MasterState) (hold : Handle) (holds : List Handle) → holds ≡ hold ∷ [] → AreHolds m hold holds
 alone_holds m hold holds e = ([], hold, e, refl, λ i d l. absurd (omega (arith, l)))
 
--- the last of two lists of the same owners are of one seat
+-- if two lists have the same owners, the last handles of both have the same seat
 ends_alike : (front xs : List Handle) (hold : Handle) → owners_of xs ≡ owners_of front ++ owner hold ∷ [] → EndsAt xs hold
 ends_alike [] [] hold e = absurd (let n = ap length e in omega (arith, n))
 ends_alike [] (x ∷ []) hold e = ([], x, refl, its_owner hold x (first_owner (owner x) (owner hold) [] [] e))
@@ -105,11 +105,11 @@ module _ (hold : Handle) (holds old before result : List Handle) (same : before 
   pub same_keys : keys_of result ≡ keys_of holds
   same_keys = owner_keys result ∙ ap (map (λ (o : Owner). o.key)) same_owners ∙ sym (owner_keys holds)
 
-  -- the last receipt is of the given hold's seat
+  -- the last receipt has the given hold's seat
   pub receipts_end : (m : MasterState) → AreHolds m hold holds → EndsAt result hold
   receipts_end m h = ends_alike h.0 result hold (same_owners ∙ ap owners_of h.2 ∙ owners_more h.0 (h.1 ∷ []) ∙ ap (λ (o : Owner). owners_of h.0 ++ o ∷ []) (ap owner h.3))
 
-  -- they are of the nodes that were doomed
+  -- the receipts are those of the nodes that were doomed
   pub receipts_listed : (t : Tree) → DoomHolds t hold holds → IsDoomList t hold.key (keys_of result)
   receipts_listed t h = go (is_linked t hold.key) h
     where
@@ -117,7 +117,7 @@ module _ (hold : Handle) (holds old before result : List Handle) (same : before 
       go true p = subst (IsPostOrder t hold.key) (sym same_keys) p
       go false p = same_keys ∙ ap keys_of p
 
--- so the last key is the hold's
+-- so the last key is that of the hold
 pub end_key : (hold : Handle) (handles : List Handle) → EndsAt handles hold → EndsWith (keys_of handles) hold.key
 end_key hold handles e = (keys_of e.0, ap keys_of e.2 ∙ keys_more e.0 (e.1 ∷ []) ∙ ap (λ k. keys_of e.0 ++ k ∷ []) e.3.key)
 
@@ -125,14 +125,14 @@ same_state : (b : Bool) (Accepted : Type 0) (old new : Locked) → MatchBool b A
 same_state true Accepted old new p = p
 same_state false Accepted old new e = ap (λ (l : Locked). l.state) e
 
--- a plain removal makes no word step if the node is gone
+-- `DoomDone` implies `DoomMarked`, which does not say that no step on the words is made if the node is gone
 pub done_marked : (old new : Locked) (key : Key) → DoomDone old new key → DoomMarked old new key
 done_marked old new key h = same_state (is_linked old.state.tree key) (IsAccepted old.state new.state (doom_cause old.state.tree old.state.root key) (Doom key)) old new h
 
 alone_different : (k : Key) → AllDifferent (k ∷ [])
 alone_different k i j d before within e = absurd (omega (arith, before, within))
 
--- so no key stands twice among the keys that a doom lists
+-- no key occurs twice among the keys that a doom lists
 pub listed_different : (t : Tree) (root : Key) → Lawful t root → (top : Key) (keys : List Key) → IsDoomList t top keys → AllDifferent keys
 listed_different t root lawful top keys h = go (is_linked t top) h
   where

@@ -1,4 +1,4 @@
--- Why removals are refused: of the value that the guard had, and whatever that was.
+-- Why removals are refused, as it is said of what the lock guarded, and as it is said without knowing that.
 use Rattle.std.proofs.Common.{◌≡◌, ◌⊎◌, inl, inr, refl, ap, ◌∙◌, subst, Bool, true, false}
 use Rattle.std.specs.Prelude.{MatchBool, Result, Ok, Err, IfErr}
 use Rattle.kf_core.specs.declared.key.Key.{Key}
@@ -33,11 +33,11 @@ self_refused old new key why h = go (same_key key old.state.root) h
     go true p = p
     go false p = elim p [ inl n ↦ inl n | inr q ↦ inr (q.0, elim q.1 [ inl f ↦ inl f.0 | inr m ↦ inr m.0 ]) ]
 
--- a doom was not of the root
+-- if the doom of a linked key was done, no cause was against it
 pub may_be_doomed : (old new : Locked) (key : Key) → DoomMarked old new key → MayBeDoomed old.state key
 may_be_doomed old new key h linked = (subst (λ b. MatchBool b (IsAccepted old.state new.state (doom_cause old.state.tree old.state.root key) (Doom key)) (new.state ≡ old.state)) linked h).no_cause
 
--- whatever the tree
+-- why a removal was refused, whatever the tree is
 any_refused : (t : Tree) (root key : Key) (why : Refusal) → RemovalRefused t root key why → RemovalRefusal why
 any_refused t root key why h = go (is_linked t key) (same_key key root) h
   where
@@ -53,7 +53,7 @@ any_self_refused s key why h = go (same_key key s.state.root) h
     go true p = inr (inl p)
     go false p = elim p [ inl n ↦ inl n.0 | inr q ↦ inr (inr q.1) ]
 
--- one that is refused as invalid is of the root, which has slot 0
+-- a removal that is refused as invalid is that of the root, which has slot 0
 invalid_root : (table : TableId) (s : Locked) (key : Key) (why : Refusal) → IsWhole table s → RemovalRefused s.state.tree s.state.root key why → why ≡ Invalid → key.slot ≡ 0
 invalid_root table s key why whole h e = go (is_linked s.state.tree key) (same_key key s.state.root) refl h
   where

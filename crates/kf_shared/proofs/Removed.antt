@@ -22,7 +22,7 @@ use Rattle.kf_shared.proofs.Notes.{tree_told}
 use Rattle.kf_shared.proofs.Receipts.{receipts_end, receipts_listed, same_owner_keys}
 use Rattle.kf_shared.proofs.Hearing.{prefix_trans, more_told}
 
--- seen by another who had seen as much before, and has seen as much since
+-- what was added between two sights was also added between an earlier sight and a later one
 pub added_on : (before mid after last : Handle) (found added : List Note) → SawMore before.seen mid.seen → SawMore after.seen last.seen → WasAdded mid.seen after.seen found added → WasAdded before.seen last.seen found added
 added_on before mid after last found added first more w = record {
   came = prefix_trans (history_of before.seen) (history_of mid.seen) found (more_told before.seen mid.seen first) w.came;
@@ -40,7 +40,7 @@ finished_on before mid after last is first more w =
 pub keys_ended : (old : Locked) (before after : List Handle) → WasEnded old before after → keys_of after ≡ keys_of before
 keys_ended old before after e = same_owner_keys after before e.owners
 
--- what was added before the unlock the last receipt has seen
+-- the last receipt has seen what was added before the unlock
 pub saw_removal : {Such : Handle → Type 0} (old new : Locked) (key : Key) (removing ended receipts : List Handle) → Adds old new (Did (Doom key)) → Last Such removing → WasEnded new removing ended → AllEnded ended receipts
     → owners_of receipts ≡ owners_of ended → Last (SawItsRemoval (history old) key (keys_of receipts)) receipts
 saw_removal old new key removing ended receipts noted l e finished owners =
@@ -72,7 +72,7 @@ module _ (old new : Locked) (hold : Handle) (removing ended receipts : List Hand
   abbrev its : Last (λ last. history_of last.seen ≡ (history new ++ unlinks_of e.gone) ++ LockReleased ∷ []) ended
   its = e.seen holds.0 holds.1 holds.2
 
-  -- if the node is not linked the given hold is the last
+  -- what the given hold had seen is a beginning of the old history
   came : IsPrefix (history_of hold.seen) (history old)
   came = go (is_linked old.state.tree hold.key) order after noted
     where
@@ -103,14 +103,14 @@ module _ (old new : Locked) (hold : Handle) (removing ended receipts : List Hand
         ),
       )
 
-  -- the receipts are those of its holds
+  -- the last receipt has the given hold's seat
   pub receipts_at_end : EndsAt receipts hold
   receipts_at_end = receipts_end hold removing [] [] receipts refl refl same_owners m holds
 
   pub receipts_of_doom : IsDoomList old.state.tree hold.key (keys_of receipts)
   receipts_of_doom = receipts_listed hold removing [] [] receipts refl refl same_owners old.state.tree order
 
--- the same as the history says it, if the lock was just taken
+-- the same in terms of the history, if the lock was just taken
 pub was_removed : (table : TableId) (old : Locked) (hold : Handle) (receipts : List Handle) → IsWhole table old → IsTaken (history old)
     → Last (WasRemovedIn (history old) old.state.tree hold (keys_of receipts)) receipts → IsDoomList old.state.tree hold.key (keys_of receipts) → Last (WasRemoved hold (keys_of receipts)) receipts
 was_removed table old hold receipts whole taken l listed =

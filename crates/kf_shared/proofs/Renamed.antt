@@ -1,5 +1,5 @@
--- A tree without a name lies in memory as one with a name does, and owns the same if the name is that of its
--- table.
+-- A tree without a name lies in memory as a tree with a name does, and owns the same if the name is that of
+-- its table.
 use Rattle.std.proofs.Common.{◌≡◌, ℕ, List, [], ◌∷◌, refl, ap, ◌∙◌}
 use base.Fraction.{full_share}
 use base.Fml.{GName, Lft, Share, ftrue, flft, fsep}
@@ -27,7 +27,7 @@ use Rattle.kf_shared.specs.contracts.locked.Locked.TheInside as named_inside
 use Rattle.kf_shared.specs.declared.tree.NewTree.TheInside.{Inside as NewInside}
 use Rattle.kf_shared.specs.declared.locked.Locked.TheInside.{Inside as NamedInside}
 
--- what is tied to one table is tied to the table that its Master has
+-- what is tied to some table is tied to the table of its Master
 of_table : {s : TreeLog} {m : MasterState} {claims : List ℕ} {old new : TableId} → m.table ≡ new → IsTied old s m claims → IsTied new s m claims
 of_table same tied = record {
   same_table = same;
@@ -46,7 +46,7 @@ module _ {M : Type 1} {𝓤 : Ura M} (𝓛 : Logic 𝓤) (N : RattleType) (g : G
   abbrev pub Named : RattleType
   Named = named.the_row N g
 
-  -- the fields of the one, and what holds of them
+  -- the fields of a tree without a name, and what is true of them
   abbrev NewFields : Locked → Type 0
   NewFields w = (a : NewInside) × ((new.the_view a ≡ w) × new.the_invariant a)
 

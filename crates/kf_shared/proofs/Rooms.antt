@@ -1,4 +1,4 @@
--- Where the node of a slot is found in a tree, and the room that loads found for its holds.
+-- How the node of a slot is found in a tree, and the room that loads found for the slot's holds.
 use Rattle.std.proofs.Common.{◌≡◌, inl, inr, ℕ, zero, suc, ◌<◌, refl, ap, sym, ◌∙◌, arith, Bool, true, false, List, length, [], ◌∷◌, ◌++◌, All}
 use Rattle.std.specs.Prelude.{Contains, Option, None, Some, is_some, slice_get, if◌then◌else◌}
 use Rattle.std.specs.Option.{option_map, option_and_then}
@@ -41,15 +41,15 @@ found_within t slot key h = go (slice_get t slot) refl h
     go None is h = absurd (none-some key h)
     go (Some r) is h = slice_get_within t slot r is
 
--- a linked key is in one of the slots
+-- the slot of a linked key is one of the slots
 pub linked_within : (t : Tree) (key : Key) → is_linked t key ≡ true → key.slot < length t
 linked_within t key linked = found_within t key.slot key (linked_in_slot t key linked)
 
--- one node more of a tour has room
+-- one more node of a tour has room
 pub rooms_more : (m m' : MasterView) (keys : List Key) (key : Key) → All (λ k. FoundRoom m k.slot) keys → KeepsRooms m m' → FoundRoom m' key.slot → All (λ k. FoundRoom m' k.slot) (keys ++ key ∷ [])
 rooms_more m m' keys key before keeps here = All-push (λ k. FoundRoom m' k.slot) keys key (λ i d h. keeps _ (before i d h)) here
 
--- if each node that a tour passed before its top has room, each node below the top has
+-- if each node that a tour passed before its top has room, so does each node below the top
 pub all_rooms : (t : Tree) (top key : Key) (m : MasterView) (keys : List Key) → key ≡ top → IsPostOrder t top (keys ++ key ∷ []) → All (λ k. FoundRoom m k.slot) keys → FoundRoomBelow t top m
 all_rooms t top key m keys ends order rooms k b = elim (Contains-append_cases keys (key ∷ []) k ((order.members k).1 (b.linked, b.below))) [
   | inl among ↦ All-contains (λ x. FoundRoom m x.slot) keys k rooms among
@@ -69,18 +69,18 @@ none_below t root top m l absent key b =
     let there : is_linked t top ≡ true = ap (is_linked t) (sym x.2) ∙ ap is_some (in_found t x.0 x.1) in
     absurd (let no : false ≡ true = sym absent ∙ there in cc))
 
--- the top has room, and so does each node below it; or one of those is full
+-- if the top has room, holds of the whole subtree are refused for the cause that refused those below the top
 pub in_refused : (t : Tree) (top : Key) (m m' : MasterView) (refusal : Refusal) → FoundRoom m top.slot → KeepsRooms m m' → HoldsBelowRefused t top m' refusal → HoldsInRefused t top m' refusal
 in_refused t top m m' refusal here keeps h = elim h [
   | inl f ↦ inl (f.0, (f.1.0, f.1.2, f.1.3))
   | inr e ↦ inr (e.0, (keeps top.slot here, e.1))
 ]
 
--- the top is full
+-- if the top is full, holds of the subtree are refused as too many
 pub top_full : (t : Tree) (top : Key) (m : MasterView) → FoundFull m top.slot → HoldsInRefused t top m TooManyHolds
 top_full t top m full = inl (refl, (top, meets_here (parent_of t) (length t) top top (same_key_self top), full))
 
--- the last key of a slot is of one of the table's
+-- a key that is the last of its slot has one of the table's slots
 pub last_within : (m : MasterView) (key : Key) → IsLastKey m key → key.slot < length m.slots
 last_within m key last = go (slice_get m.slots key.slot) refl last
   where

@@ -1,5 +1,5 @@
--- While the lock is free the tree says what the words do, so what lasts over runs of the words holds of the
--- tree.
+-- While the lock is free, the tree says what the words say, so what lasts over runs of the words is true of
+-- the tree.
 use Rattle.std.proofs.Common.{◌≡◌, inl, inr, ℕ, ◌+◌, ◌≤◌, Bool, true, false, cond, not, ◌&&◌, refl, sym, ap, ◌∙◌, subst, ⊎_elim, arith, ne_eqb}
 use Rattle.std.specs.Prelude.{slice_get, Option, None, Some, is_some, if◌then◌else◌}
 use Rattle.std.specs.Option.{option_map}
@@ -40,14 +40,14 @@ is_of_history slots limit t u kinds s h r free = free.whole.told
 pub is_replay : IsReplay
 is_replay slots limit t u kinds s h r free = free.whole.kept.replayed
 
--- the Master of the words is that of the tree
+-- the tree and the world of the words agree
 agrees : (u : Table) (s : Locked) → IsFreeLock u s → Agrees s.state.tree (world u)
 agrees u s free key = sym (free.whole.tied.marks key) ∙ ap (λ (m : MasterView). marks_in (slice_get m.slots key.slot) key.generation) (sym free.its_master)
 
 pub tree_agrees : TreeAgrees
 tree_agrees slots limit t u kinds s h r free = agrees u s free
 
--- what an Enter makes of its caller
+-- what an Enter does to its caller
 entered : (w w' : BareWorld) (j : ℕ) (key : Key) (phase : Phase) → BareStep w (Enter j) w' → IsCaller w j key phase → IsCaller w' j key (if is_live w key then Running else Turned)
 entered w w' j key phase s there =
     let old : Caller = record { key = key; phase = phase } in
@@ -67,7 +67,7 @@ has_marks : (o : Option Record) → is_some (option_map (λ (r : Record). r.mark
 has_marks None = refl
 has_marks (Some r) = refl
 
--- the tree and the words have the same nodes linked
+-- the same nodes are linked in the tree and in the words
 same_linked : (u : Table) (s : Locked) → IsFreeLock u s → (key : Key) → is_linked s.state.tree key ≡ is_linked_in (world u) key
 same_linked u s free key = sym (has_marks (record_at s.state.tree key)) ∙ ap is_some (agrees u s free key)
 

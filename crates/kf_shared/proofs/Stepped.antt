@@ -1,4 +1,4 @@
--- The steps of seats that look and wait, and learn in between what others did.
+-- The steps of seats that look and wait, and in between see what others did.
 use Rattle.std.proofs.Common.{◌≡◌, ℕ, zero, suc, Bool, inl, inr, refl, ap, ◌∙◌, subst, sym, List}
 use Rattle.std.specs.Prelude.{◌⊎◌, MatchResult, Result, Ok, Err}
 use mathlib.Core.List.{IsPrefix}
@@ -87,7 +87,7 @@ looked_rested test zero a b e = subst (LookedAndWaited a) (sym e) (waited_self a
 looked_rested test (suc count) a b l =
     waited_on a l.1 b (waited_on a l.0 l.1 (looked_rested test count a l.0 l.2) (only_waited l.0 l.1 (only_look l.0 l.1 l.3))) (waited_rested _ l.1 b l.4)
 
--- a wait for a drain looks and rests
+-- a wait for a drain consists of looks and rests
 pub waited_drained : (a b : CallerSight) → WaitedForDrain a b → LookedAndWaited a b
 waited_drained a b w = waited_on a w.1 b (looked_rested _ w.0 a w.1 w.2) (only_waited w.1 b (only_look w.1 b w.3))
 
@@ -103,7 +103,7 @@ stays_more a b x = only_more (seat_view a) (seat_view b) x.1
 pub stays_heard : (a b : Handle) → HasHeard a b → SawMore a.seen b.seen → Stays a b
 stays_heard a b heard more = (heard_seat a b heard, only_told (seat_view a) (seat_view b) (heard_told a b heard more))
 
--- a seat that met the Master only learned
+-- a seat that met the Master made no step, and has only seen more
 module _ (before after : Handle) (seen : Seen) (is : after ≡ having_seen seen before) (met : IsPrefix before.seen.steps seen.steps) where
   met_heard : HasHeard before after
   met_heard = is ∙ ap (λ s. having_seen s before) (sym (ap (λ (h : Handle). h.seen) is))
@@ -117,7 +117,7 @@ module _ (before after : Handle) (seen : Seen) (is : after ≡ having_seen seen 
   pub met_learned : (notes : List Note) → history_of seen ≡ notes → Learned notes before after
   met_learned notes known = (met_heard, met_more, ap (λ (h : Handle). history_of h.seen) is ∙ known)
 
--- and then it looked whether its node has left the tree
+-- a seat that met the Master, and then looked whether its node has left the tree, has only looked
 pub only_parted : (before after : Handle) (seen : Seen) (r : Result Handle Handle) → after ≡ having_seen seen before → IsPrefix before.seen.steps seen.steps
     → MatchResult r (λ gone. WasMade parts (seat_view after) (seat_view gone)) (λ back. WasMade parts (seat_view after) (seat_view back))
     → MatchResult r (λ gone. OnlyLooked (seat_view before) (seat_view gone)) (λ back. OnlyLooked (seat_view before) (seat_view back))

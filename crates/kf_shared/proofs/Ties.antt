@@ -1,4 +1,4 @@
--- What the lock keeps is kept by each command.
+-- After each command, the Master and the claims still agree with the tree.
 use Rattle.std.proofs.Common.{◌≡◌, ℕ, refl, ap, sym, ◌∙◌, subst, Bool, true, false, cond, List, ◌++◌, length, slice_set}
 use Rattle.std.specs.Prelude.{Option, None, Some, Result, Ok, Err, IfOk, IfErr, IfSome, MatchBool, is_some, All, Contains, slice_get, slice_index_or}
 use Rattle.std.specs.Option.{option_map}
@@ -39,7 +39,7 @@ bearable m (Some k) key h e = subst (MayBear m.view) (same_Some k key e) h
 empty_slot : (m : MasterState) (key : Key) → IsVacant m.view key → IsEmpty m.view.slots key
 empty_slot m key v = record { last = v.last; vacant = v.vacant }
 
--- what is said of words and tree after a command and its events
+-- after a command and its events, tree and words are still tied
 tied : (table : TableId) (s s' : TreeLog) (m m' : MasterState) (claims : List ℕ) (cause : Option Refusal) (c : Command) → IsTied table s m claims → IsAccepted s s' cause c →
     m'.table ≡ m.table → length m'.view.slots ≡ length m.view.slots → length m'.nodes ≡ length m.nodes → SameMarks m'.view.slots (after s.tree c) → HasNodes m'.nodes (after s.tree c) → IsTied table s' m' claims
 tied table s s' m m' claims cause c t a same_table wide all same nodes = record {
@@ -69,7 +69,7 @@ tied_master table s m m' claims t n = record {
 pub tied_state : (table : TableId) (s s' : TreeLog) (m : MasterState) (claims : List ℕ) → IsTied table s m claims → s' ≡ s → IsTied table s' m claims
 tied_state table s s' m claims t e = subst (λ x. IsTied table x m claims) (sym e) t
 
--- other commands of the same tree
+-- tree and words are still tied if only the stored commands are others
 pub tied_same : (table : TableId) (s s' : TreeLog) (m : MasterState) (claims : List ℕ) → IsTied table s m claims → s'.root ≡ s.root → s'.tree ≡ s.tree → IsTied table s' m claims
 tied_same table s s' m claims t root tree = record {
   same_table = t.same_table;
@@ -102,7 +102,7 @@ born_marks m m' next key found given slots =
     ap (λ xs. marks_at xs key) slots ∙ marks_written m.view.slots key key (Some fresh_marks) (alone_vacant m.view.slots key (empty_slot m key (bearable m next key found given).vacant))
     ∙ ap (λ b. cond b (Some fresh_marks) (marks_at m.view.slots key)) (same_key_self key)
 
--- and its key is the lowest that the search found
+-- the node was born in the lowest slot that the search found free
 pub born_lowest : (old found m : MasterState) (next : Option Key) (key : Key) → Searched old.view (option_map (λ (k : Key). k.slot) next) found.view → next ≡ Some key → m.view.at_birth ≡ found.view.loads → BornLowest old.view m.view key.slot
 born_lowest old found m next key searched given kept = (found.view, subst (λ n. Searched old.view (option_map (λ (k : Key). k.slot) n) found.view) given searched, kept)
 
@@ -153,7 +153,7 @@ tied_renamed table s s' m claims key dir name cause stays (Ok u) t same accepted
     ] same accepted
 tied_renamed table s s' m claims key dir name cause stays (Err why) t same accepted refused = tied_state table s s' m claims t refused.unchanged
 
--- the first of the keys of a subtree are linked in the words
+-- the first keys of a subtree's post-order are linked in the words
 pub linked_in_words : (slots : List SlotState) (t : Tree) (top : Key) (keys below rest seen : List Key) → SameMarks slots t → IsPostOrder t top keys → keys ≡ below ++ rest → seen ≡ below → All (λ key. is_some (marks_at slots key) ≡ true) seen
 linked_in_words slots t top keys below rest seen same order parts is i d l =
     ap is_some (same key) ∙ go (record_at t key) ∙ ((order.members key).0 (subst (λ ks. Contains ks key) (sym parts) (Contains-append_left below rest key (subst (λ ks. Contains ks key) is (Contains-get_or seen i d l))))).0

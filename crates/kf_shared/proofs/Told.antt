@@ -1,5 +1,4 @@
--- What the lock keeps is tied, and is that of the whole history, after each of its commands and the note of
--- it.
+-- After each command and its note, what the lock guards is tied, and is that of the whole history.
 use Rattle.std.proofs.lemmas.List.{length-append}
 use Rattle.std.proofs.Common.{◌≡◌, ◌≢◌, ℕ, ◌+◌, arith, List, [], ◌∷◌, ◌++◌, length, refl, sym, ap, ◌∙◌, subst, slice_set, true, false, Bool}
 use Rattle.std.specs.Prelude.{Option}
@@ -24,18 +23,18 @@ use Rattle.kf_shared.proofs.Notes.{IsBare, bare_released, bare_taken, noted_bare
 use Rattle.kf_shared.proofs.OfRun.{run_longer, run_told}
 use Rattle.kf_shared.proofs.Ties.{tied_master, tied_same}
 
--- what the history determines: tree, claims and stored commands, and what was said to look-ups
+-- tree, claims and stored commands are those of the history, and the links for look-ups are of the run
 abbrev pub AreTold : LiveLog → List ℕ → List Note → Type 0
 AreTold s claims notes = IsNoted s.log claims notes × AreOfRun s.log.root s.links notes
 
--- what holds of the value behind the lock
+-- what is true of the value that the lock guards
 abbrev pub Held : TableId → LiveLog → MasterState → List ℕ → Type 0
 Held table s m claims = IsTied table s.log m claims × AreTold s claims (history_of m.seen)
 
 pub keeps_all : (m : MasterState) → KeepsNodes m m
 keeps_all m = record { table = refl; limit = refl; nodes = refl; slots = refl; history = refl }
 
--- a note changes nothing else of the Master
+-- a note changes nothing else that the Master has
 pub tied_words : (table : TableId) (s : TreeLog) (m m' : MasterState) (claims : List ℕ) → IsTied table s m claims → KeepsWords m m' → IsTied table s m' claims
 tied_words table s m m' claims t w = record {
   same_table = w.table ∙ t.same_table;
@@ -53,7 +52,7 @@ held_master table s m m' claims h n = (tied_master table s.log m m' claims h.0 n
 pub held_state : (table : TableId) (s s' : LiveLog) (m : MasterState) (claims : List ℕ) → Held table s m claims → s' ≡ s → Held table s' m claims
 held_state table s s' m claims h e = subst (λ x. Held table x m claims) (sym e) h
 
--- the tree is the same, and links were made of it
+-- the tree is the same, and links were made from it
 pub held_told : (table : TableId) (s s' : LiveLog) (m : MasterState) (claims : List ℕ) → Held table s m claims → s'.log ≡ s.log → WereTold s.links s'.links s'.log → Held table s' m claims
 held_told table s s' m claims h same told =
     let noted : IsNoted s'.log claims (history_of m.seen) = subst (λ l. IsNoted l claims (history_of m.seen)) (sym same) h.1.0 in (
@@ -61,7 +60,7 @@ held_told table s s' m claims h same told =
       (noted, run_told s'.log claims (history_of m.seen) noted s.links s'.links told (subst (λ (l : TreeLog). AreOfRun l.root s.links (history_of m.seen)) (sym same) h.1.1)),
     )
 
--- the same root and links
+-- if root and links are the same, the links are still of the run
 run_same : (s s' : LiveLog) (notes : List Note) → s'.log.root ≡ s.log.root → s'.links ≡ s.links → AreOfRun s.log.root s.links notes → AreOfRun s'.log.root s'.links notes
 run_same s s' notes root links a = subst (λ k. AreOfRun k s'.links notes) (sym root) (subst (λ l. AreOfRun s.log.root l notes) (sym links) a)
 
@@ -72,11 +71,11 @@ held_same table s s' m claims h root tree commands links = (
   (noted_same s.log s'.log claims (history_of m.seen) h.1.0 root tree commands, run_same s s' (history_of m.seen) root links h.1.1),
 )
 
--- one note more of no command
+-- after one more note, the links are still of the run
 run_noted : (s : LiveLog) (m m' : MasterState) (note : Note) → WasNoted note m m' → AreOfRun s.log.root s.links (history_of m.seen) → AreOfRun s.log.root s.links (history_of m'.seen)
 run_noted s m m' note w = run_longer s.log.root s.links (history_of m.seen) (history_of m'.seen) (note ∷ [], sym w.history)
 
--- a claim was put, and noted
+-- a claim was written and noted
 pub held_claimed : (table : TableId) (s : LiveLog) (m m' : MasterState) (claims claims' : List ℕ) (key : Key) → Held table s m claims → claims' ≡ slice_set claims key.slot key.generation → WasNoted (Claimed key) m m' → Held table s m' claims'
 held_claimed table s m m' claims claims' key h put w =
     let t = tied_words table s.log m m' claims h.0 w.words in
@@ -92,7 +91,7 @@ held_claimed table s m m' claims claims' key h put w =
     let noted : IsNoted s.log (slice_set claims key.slot key.generation) (history_of m'.seen) = subst (IsNoted s.log (slice_set claims key.slot key.generation)) (sym w.history) (noted_claimed s.log claims (history_of m.seen) key h.1.0) in
     subst (Held table s m') (sym put) (put_in, (noted, run_noted s m m' (Claimed key) w h.1.1))
 
--- the commands gave way to the canonical list, and that was noted
+-- the commands were replaced by the canonical list, and that was noted
 pub held_compacted : (table : TableId) (s s' : LiveLog) (m m' : MasterState) (claims : List ℕ) → Held table s m claims → IsCompacted s.log s'.log → s'.links ≡ s.links → WasNoted Compacted m m' → Held table s' m' claims
 held_compacted table s s' m m' claims h a links w = (
   tied_words table s'.log m m' claims (tied_same table s.log s'.log m claims h.0 a.same_root a.same_tree) w.words,
@@ -102,7 +101,7 @@ held_compacted table s s' m m' claims h a links w = (
   ),
 )
 
--- a note of neither a command, a claim nor a compaction
+-- a note that is not of a command, a claim or a compaction
 module _ (table : TableId) (s : LiveLog) (m m' : MasterState) (claims : List ℕ) (h : Held table s m claims) where
   held_bare : (note : Note) → IsBare note → WasNoted note m m' → Held table s m' claims
   held_bare note bare w =
@@ -112,11 +111,11 @@ module _ (table : TableId) (s : LiveLog) (m m' : MasterState) (claims : List ℕ
   pub held_taken : WasNoted LockTaken m m' → Held table s m' claims
   held_taken w = held_bare LockTaken bare_taken w
 
-  -- and that it is about to be released
+  -- the lock is about to be released, and that was noted
   pub held_released : WasNoted LockReleased m m' → Held table s m' claims
   held_released w = held_bare LockReleased bare_released w
 
--- the history after the command that was stored last was noted, and no other note came
+-- the history after the last stored command was noted, and no other note came
 module _ (s s' : LiveLog) (m m1 m2 : MasterState) (cause : Option Refusal) (c : Command) (accepted : IsAccepted s.log s'.log cause c) (noted : WasNoted (last_stored s'.log.commands) m m1) (still : history_of m2.seen ≡ history_of m1.seen) where
   pub adds_last : history_of m2.seen ≡ history_of m.seen ++ Did c ∷ []
   adds_last = still ∙ noted.history ∙ ap (λ n. history_of m.seen ++ n ∷ []) (ap last_stored accepted.stored ∙ last_stored_more s.log.commands c)
@@ -129,7 +128,7 @@ module _ (s s' : LiveLog) (m m1 m2 : MasterState) (cause : Option Refusal) (c : 
             (subst (λ k. AreOfRun k s.links (history_of m2.seen)) (sym accepted.same_root) (run_longer s.log.root s.links (history_of m.seen) (history_of m2.seen) (Did c ∷ [], sym adds_last) t.1)),
       )
 
--- a rename stored a command exactly if there are more commands than before
+-- a rename stored a command if and only if there are more commands than before
 module _ (s s' : TreeLog) (cause : Option Refusal) (c : Command) (stays : Bool) (same : stays ≡ true → s' ≡ s) (accepted : stays ≡ false → IsAccepted s s' cause c) where
   longer : stays ≡ false → length s'.commands ≡ length s.commands + 1
   longer e = ap length (accepted e).stored ∙ length-append s.commands (c ∷ [])

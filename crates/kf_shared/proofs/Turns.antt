@@ -1,5 +1,5 @@
--- The last turn of a removal under the lock: the first of its nodes are unlinked, and its last hold learns of
--- that.
+-- The end of a removal's critical section: the first of its nodes are unlinked, and its last hold or receipt
+-- has then seen that.
 use Rattle.std.proofs.Common.{◌≡◌, ℕ, zero, suc, ◌+◌, ◌<◌, inl, inr, List, [], ◌∷◌, ◌++◌, length, drop, get_or, slice_set, refl, sym, ap, ◌∙◌, subst, arith}
 use Rattle.std.proofs.lemmas.List.{append_assoc, length-append, same_from_push}
 use mathlib.Core.List.{IsPrefix}
@@ -16,7 +16,7 @@ use Rattle.kf_shared.specs.Removal.{keys_of}
 use Rattle.kf_shared.specs.Sections.{HasMet, WasEnded, unlinks_of}
 use Rattle.kf_shared.proofs.Receipts.{keys_more, owners_more, same_owner_keys}
 
--- what has the same owners is of the same table
+-- if two lists of handles have the same owners, they are of the same table
 pub same_owner_tables : (table : TableId) (xs ys : List Handle) → owners_of ys ≡ owners_of xs → AreOf table xs → AreOf table ys
 same_owner_tables table [] [] e a i d l = a i d l
 same_owner_tables table [] (y ∷ ys) e a i d l = absurd (let n = ap length e in omega (arith, n))
@@ -24,7 +24,7 @@ same_owner_tables table (x ∷ xs) [] e a i d l = absurd (omega (arith, l))
 same_owner_tables table (x ∷ xs) (y ∷ ys) e a zero d l = ap (λ (os : List Owner). (get_or os 0 (owner x)).seat.table) e ∙ a 0 x (omega arith)
 same_owner_tables table (x ∷ xs) (y ∷ ys) e a (suc i) d l = same_owner_tables table xs ys (ap (λ (os : List Owner). drop 1 os) e) (λ j f m. a (suc j) f (omega (arith, m))) i d (omega (arith, l))
 
--- so is the last of a list
+-- if a list of handles is of a table, so is its last one
 pub last_of : (table : TableId) (items front : List Handle) (last : Handle) → items ≡ front ++ last ∷ [] → AreOf table items → last.table ≡ table
 last_of table items front last e a = go front (subst (AreOf table) e a)
   where
@@ -32,14 +32,14 @@ last_of table items front last e a = go front (subst (AreOf table) e a)
     go [] h = h 0 last (omega arith)
     go (x ∷ xs) h = go xs (λ i d l. h (suc i) d (omega (arith, l)))
 
--- a list of which only the last item is set to another
+-- setting the last item of a list leaves the items before it
 pub last_set : (i : ℕ) (xs : List Handle) (last new : Handle) → i + 1 ≡ length xs → last ≡ get_or xs i last → (front : List Handle) × (xs ≡ front ++ last ∷ []) × (slice_set xs i new ≡ front ++ new ∷ [])
 last_set i [] last new h is = absurd (omega (arith, h))
 last_set zero (x ∷ []) last new h is = ([], ap (λ y. y ∷ []) (sym is), refl)
 last_set zero (x ∷ y ∷ xs) last new h is = absurd (omega (arith, h))
 last_set (suc i) (x ∷ xs) last new h is = (let r = last_set i xs last new (omega (arith, h)) is in (x ∷ r.0, ap (λ ys. x ∷ ys) r.1, ap (λ ys. x ∷ ys) r.2))
 
--- a list of which the last has met has the nodes that it had
+-- if the last of a list has met the Master, the list still has the same owners
 pub met_owners : (found : List Note) (seen : Seen) (before after : List Handle) → HasMet found seen before after → owners_of after ≡ owners_of before
 met_owners found seen before after h = elim h [
   | inl none ↦ ap owners_of none.1
@@ -50,7 +50,7 @@ pub met_pushed : (front before after : List Handle) (last met : Handle) (seen : 
 met_pushed front before after last met seen was is push =
     ap owners_of push ∙ ap (λ h. owners_of (front ++ h ∷ [])) is ∙ owners_more front (having_seen seen last ∷ []) ∙ sym (owners_more front (last ∷ [])) ∙ sym (ap owners_of was)
 
--- the last of a list is the last of it behind others
+-- if the last of a list has met the Master, it is also the last of the list with others before it
 pub met_behind : (found : List Note) (seen : Seen) (others before after : List Handle) (last : Handle) (front : List Handle) → before ≡ front ++ last ∷ [] → after ≡ front ++ having_seen seen last ∷ [] → IsPrefix (history_of last.seen) found
     → HasMet found seen (others ++ before) (others ++ after)
 met_behind found seen others before after last front was is came = inr (
@@ -61,7 +61,7 @@ met_behind found seen others before after last front was is came = inr (
   came,
 )
 
--- so it is behind more of them, if the list is not empty
+-- the same behind more others, if the list is not empty
 pub met_far : (found : List Note) (seen : Seen) (others more before after : List Handle) → 0 < length before → HasMet found seen before after → HasMet found seen (others ++ (more ++ before)) (others ++ (more ++ after))
 met_far found seen others more before after some h = elim h [
   | inl none ↦ absurd (omega (arith, none.0, some))
@@ -73,7 +73,7 @@ unlinks_more : (keys : List Key) (key : Key) → unlinks_of (keys ++ key ∷ [])
 unlinks_more [] key = refl
 unlinks_more (k ∷ keys) key = ap (λ notes. Did (Unlink k) ∷ notes) (unlinks_more keys key)
 
--- one unlink more was noted
+-- one more unlink was noted
 pub next_gone : (first before after : List Note) (gone : List Key) (key : Key) → before ≡ first ++ unlinks_of gone → after ≡ before ++ Did (Unlink key) ∷ [] → after ≡ first ++ unlinks_of (gone ++ key ∷ [])
 next_gone first before after gone key so noted =
     noted ∙ ap (λ l. l ++ Did (Unlink key) ∷ []) so ∙ append_assoc first (unlinks_of gone) (Did (Unlink key) ∷ []) ∙ ap (λ l. first ++ l) (sym (unlinks_more gone key))
@@ -84,7 +84,7 @@ next_unlinked first before after receipts new hold parted so noted key push =
     next_gone first before after (keys_of receipts) hold.key so noted
     ∙ ap (λ ks. first ++ unlinks_of ks) (ap (λ k. keys_of receipts ++ k ∷ []) (sym key) ∙ sym (keys_more receipts (parted ∷ [])) ∙ sym (ap keys_of push))
 
--- the keys of those that are receipts are the first, and so they are with the next
+-- the keys of the receipts are the first of all keys, also with the next key added
 pub first_keys : (receipts rest holds : List Handle) → owners_of receipts ++ owners_of rest ≡ owners_of holds → IsPrefix (keys_of receipts) (keys_of holds)
 first_keys receipts rest holds e = (keys_of rest, sym (keys_more receipts rest) ∙ same_owner_keys (receipts ++ rest) holds (owners_more receipts rest ∙ e))
 
@@ -98,7 +98,8 @@ owners_long : (xs : List Handle) → length (owners_of xs) ≡ length xs
 owners_long [] = refl
 owners_long (x ∷ xs) = (let n = owners_long xs in omega (arith, n))
 
--- the last was met, the first were unlinked, the release of the lock was noted, and the last was met again
+-- the last hold met the Master, the first nodes were unlinked, the release of the lock was noted, and the
+-- last hold met the Master again
 pub ended_turn : (old mid cut shut : Locked) (seen last_seen : Seen) (removing holds rest ended : List Handle) (gone : List Key) → HasMet (history old) seen removing holds → history mid ≡ history old
     → owners_of rest ≡ owners_of holds → IsPrefix gone (keys_of holds) → history cut ≡ history mid ++ unlinks_of gone → Adds cut shut LockReleased → HasMet (history shut) last_seen rest ended → history_of last_seen ≡ history shut
     → WasEnded old removing ended

@@ -1,4 +1,5 @@
--- When the Master's nodes are those of the tree, and what a change of only marks leaves of the Master.
+-- When the Master's nodes are those of the tree, and what a change of only marks leaves as it was in the
+-- Master.
 use Rattle.std.specs.Prelude.{◌≡◌, List, length, slice_get, Some}
 use Rattle.kf_core.specs.declared.key.Key.{Key}
 use Rattle.kf_core.specs.declared.key.Node.{Node}
@@ -12,7 +13,7 @@ abbrev pub HasNodes : List Node → Tree → Type 0
 HasNodes nodes tree =
     (key : Key) (r : Record) → record_at tree key ≡ Some r → slice_get nodes key.slot ≡ Some r.node
 
--- the Master has the table, the nodes and the slots that it had, and no note was added
+-- the Master has the same table, the same nodes and as many slots as before, and no note was added
 pub record OnlyMarks (old new : MasterState) : Type 0 where
   pub table : new.table ≡ old.table
   pub nodes : new.nodes ≡ old.nodes

@@ -5,6 +5,6 @@ use Rattle.kf_shared.specs.Locked.{Locked}
 use Rattle.kf_shared.specs.contracts.locked.Locked as named
 use Rattle.kf_shared.specs.contracts.tree.NewTree.{the_row}
 
--- s ends as the last value behind r, which has a name
+-- when the borrow r, which has a name, ends, the value behind s is the last value behind r
 abbrev pub LendsNamed : (N : RattleType) → Ghosts N.Denot → MutBor Locked → MutBor Locked → Fml
 LendsNamed N name s r = Lends the_row (named.the_row N name) s r (λ w. w)

@@ -1,4 +1,4 @@
--- What the tree lock keeps, and what the calls on one node make of it.
+-- What the tree's lock guards, and how the calls on one node change it.
 use Rattle.std.specs.Prelude.{◌≡◌, ◌⊎◌, ℕ, Bool, false, ◌==◌, ◌&&◌, nat_lt, nat_le, slice_get, List, [], ◌∷◌, ◌++◌, length, Option, None, Some, MatchBool, IfSome}
 use Rattle.std.specs.Option.{option_map}
 use Rattle.kf_core.specs.declared.key.Key.{Key}
@@ -20,15 +20,16 @@ use Rattle.kf_shared.specs.Agreement.{HasNodes}
 use Rattle.kf_looks.specs.declared.view.Link.{Link}
 use Rattle.kf_shared.specs.Noted.{IsNoted}
 
--- the tree with its commands, all links that were made for look-ups, the Master of the words, and by slot the
--- generation that was last claimed
+-- the tree with its commands, all links that were made for look-ups, the Master of the words, and for each
+-- slot the generation that was claimed last
 pub record Locked : Type 0 where
   pub state : TreeLog
   pub links : List Link
   pub master : MasterState
   pub claims : List ℕ
 
--- the Master and the claims are those of the tree, whose root has slot 0
+-- the Master is of this table and agrees with the tree, there are as many claims as slots, and the tree's
+-- root has slot 0
 pub record IsTied (table : TableId) (s : TreeLog) (m : MasterState) (claimed : List ℕ) : Type 0 where
   pub same_table : m.table ≡ table
   pub root : s.root.slot ≡ 0
@@ -46,39 +47,41 @@ history s = history_of s.master.seen
 abbrev pub IsToldBy : Locked → List Note → Type 0
 IsToldBy s notes = IsNoted s.state s.claims notes
 
--- what holds whenever the lock is free: the tree is lawful and the replay of its commands, the Master names
--- the same keys, and tree, claims and stored commands are those of the whole history
+-- what holds whenever the lock is free: the tree is lawful and the replay of its commands, the Master agrees
+-- with the tree, and there are as many claims as slots. Tree, claims and stored commands are those of the
+-- whole history
 pub record IsWhole (table : TableId) (s : Locked) : Type 0 where
   pub kept : IsKept s.state
   pub tied : IsTied table s.state s.master s.claims
   pub told : IsToldBy s (history s)
 
--- one note came next in the history
+-- this note came next in the history, and no other
 abbrev pub Adds : Locked → Locked → Note → Type 0
 Adds old new note = history new ≡ history old ++ note ∷ []
 
--- this call's search for a free slot returned this key, the next of its slot
+-- this call's search for a free slot returned this key, the next one of its slot, or it returned none
 pub record HasFound (m : MasterView) (next : Option Key) (m' : MasterView) : Type 0 where
   pub searched : Searched m (option_map (λ (key : Key). key.slot) next) m'
   pub vacant : IfSome next (λ key. IsVacant m' key)
 
--- the slots from 1 up were searched, this one was the first found free, and the loads of that search are
--- those that counted at the last birth
+-- the slots were searched from 1 up, this one was the first that was found free, and the loads of that search
+-- are those that counted at the last birth
 abbrev pub BornLowest : MasterView → MasterView → ℕ → Type 0
 BornLowest old new slot = (found : MasterView) × FoundFirst old slot found × (new.at_birth ≡ found.loads)
 
--- the node was linked in the directory, under the next key that was found, and that is stored
+-- the node was linked in the directory under this key, the next one that was found, and that is stored
 abbrev pub Created : Locked → Locked → Key → List ℕ → Node → Bool → Key → Type 0
 Created old new parent name node live key =
     IsAccepted old.state new.state (create_cause old.state.tree old.state.root parent name node (Some key))
     (Create key parent name node live)
 
--- what is wrong with the new node, whichever key is next
+-- why the new node is refused, whatever its key is
 abbrev pub creation_fault : Locked → Key → List ℕ → Node → Option Refusal
 creation_fault s parent name node = create_fault s.state.tree s.state.root parent name node
 
--- why a create was refused: something was wrong with the new node, and nothing was searched or changed; or
--- nothing was, and with the next key that was found there was this cause, or no memory
+-- why a creation was refused: the node is refused whatever its key is, and no slot was searched and nothing
+-- changed. Or it is not, and with the next key that the search returned there was this cause, or there was no
+-- memory
 abbrev pub CreateRefused : Locked → Locked → Key → List ℕ → Node → Refusal → Type 0
 CreateRefused old new parent name node refusal =
     ((creation_fault old parent name node ≡ Some refusal) × (new ≡ old))
@@ -91,12 +94,13 @@ CreateRefused old new parent name node refusal =
 abbrev pub move_cause : Locked → Key → Key → List ℕ → Option Refusal
 move_cause s key dir name = rename_cause s.state.tree s.state.root key dir name
 
--- the node was taken out of the tree, and that is stored; or it was not linked, and nothing was done
+-- if the unlink returned true, the node was taken out of the tree, and that is stored; otherwise nothing was
+-- done
 abbrev pub UnlinkDone : Locked → Locked → Key → Bool → Type 0
 UnlinkDone old new key unlinked = MatchBool unlinked
     (IsAccepted old.state new.state (unlink_cause old.state.tree key) (Unlink key)) (new ≡ old)
 
--- a new hold of this linked node, which has made no step
+-- a new hold of this linked node; the hold has made no step
 pub record IsHoldOfNode (table : TableId) (t : Tree) (key : Key) (hold : Handle) : Type 0 where
   pub same_table : hold.table ≡ table
   pub key_is : hold.key ≡ key
@@ -104,14 +108,14 @@ pub record IsHoldOfNode (table : TableId) (t : Tree) (key : Key) (hold : Handle)
   pub still : hold.phase ≡ Still
   pub steps : hold.steps ≡ 0
 
--- why a hold is refused: the node is not linked, and nothing changed; or one load found as many holds as
--- there may be; or there was no memory
+-- why a hold is refused: the node is not linked, and nothing changed; or one load found the greatest number
+-- of holds; or there was no memory
 abbrev pub HoldRefused : Locked → Locked → Key → Refusal → Type 0
 HoldRefused old new key refusal = MatchBool (is_linked old.state.tree key)
     (PinRefused old.master.view key.slot refusal new.master.view) ((refusal ≡ NoEntry) × (new ≡ old))
 
--- the root, the tree, its commands and the claims are as before, and of the Master the table, the nodes and
--- the slots
+-- the root, the tree, its commands and the claims are as before. So are the Master's table, limit of holds,
+-- nodes and slots, and the Master added no note
 pub record Unchanged (old new : Locked) : Type 0 where
   pub root : new.state.root ≡ old.state.root
   pub tree : new.state.tree ≡ old.state.tree
@@ -119,7 +123,8 @@ pub record Unchanged (old new : Locked) : Type 0 where
   pub claims : new.claims ≡ old.claims
   pub master : KeepsNodes old.master new.master
 
--- why an unlink is refused: the tree refuses it, and nothing changed; or one load found the word in use
+-- why an unlink is refused: the tree refuses it, and nothing changed; or the tree does not, but one load
+-- found the word in use, and the refusal is Busy
 abbrev pub UnlinkRefused : Locked → Locked → Key → Refusal → Type 0
 UnlinkRefused old new key refusal =
     ((unlink_cause old.state.tree key ≡ Some refusal) × (new ≡ old))
@@ -131,12 +136,12 @@ abbrev pub is_some_of : Option ℕ → ℕ → Bool
 is_some_of None n = false
 is_some_of (Some m) n = m == n
 
--- the generation is not 0, and no later one than that
+-- there is a last generation, and this generation is not 0 and not later than the last
 abbrev pub is_up_to : Option ℕ → ℕ → Bool
 is_up_to None n = false
 is_up_to (Some last) n = nat_lt 0 n && nat_le n last
 
--- the key was given in this tree: a slot gives its generations in turn, from 1 on
+-- the key's slot has had the key's generation: each slot gives its generations in turn, from 1 on
 abbrev pub was_given : MasterView → Key → Bool
 was_given m key = is_up_to (last_of m key.slot) key.generation
 

@@ -17,12 +17,13 @@ use Rattle.kf_shared.specs.Links.{LeadInRun, AreOfRun}
 use Rattle.kf_shared.specs.Locked.{Locked, history}
 use Rattle.kf_shared.specs.Noted.{tree_in}
 
--- each time that a link was made, all links so far led as a tree of the one run has it
+-- each time that a link was made, whatever the links so far led to was in a tree of the one run
 abbrev pub IsLedInRun : Locked → Type 0
 IsLedInRun s = AreOfRun s.state.root s.links (history s)
 
--- the lock is free, and these are the words of its look-ups: they meet their rule, and the writer at them
--- made the links that the lock's value knows, and no other
+-- these are the words for look-ups that go with the value of the lock, which is free. They meet their rule,
+-- and their writer made the links that the value has, and no other. Each time that a link was made, whatever
+-- the links so far led to was in a tree of the run
 pub record AreItsWords (slots : ℕ) (words : Table) (s : Locked) : Type 0 where
   pub led : IsLedInRun s
   pub kept : Kept slots words
@@ -31,7 +32,7 @@ pub record AreItsWords (slots : ℕ) (words : Table) (s : Locked) : Type 0 where
   pub writes : IsWriter writer
   pub made : (plan_of writer.role).links ≡ s.links
 
--- words for this many slots, at which only the writer sits
+-- new words for this many slots, at which only the writer has a seat
 abbrev pub new_words : ℕ → ℕ → Table
 new_words slots version = record {
   words = slice_set (replicate (words_for slots + lines_at) 0) 0 version;
@@ -39,18 +40,18 @@ new_words slots version = record {
   views = opened slots version ∷ [];
 }
 
--- a new tree, of which no link was made yet, goes with such words
+-- a new tree, for which no link was made yet, goes with new words
 abbrev pub LookUpsStart : Type 0
 LookUpsStart = (slots version : ℕ) (s : Locked) → IsLedInRun s → s.links ≡ []
     → AreItsWords slots (new_words slots version) s
 
--- this is what a seat at the words has seen, or had seen at some moment before
+-- this is what a seat at the words has seen, or had seen at some earlier moment
 abbrev pub HasSeen : Table → ℕ → List Link → Type 0
 HasSeen words seat seen = (v : LookView) × (get_elem? words.views seat ≡ some v) × IsLater v.seen seen
 
--- whatever a look-up finds in what its seat has seen is what a tree of the run has: there is a beginning of
--- the history, and in the tree that it made the path leads to this node, which is live there, and of this
--- kind. That holds too of what a seat saw while a command was under way
+-- whatever a look-up finds in what its seat has seen is in a tree of the run. There is a beginning of the
+-- history, and in the tree that it made, each path leads to the node that the look-up finds by it. This node
+-- is live there, and is what was found. The same is true of what a seat saw while a command was under way
 abbrev pub LookUpsAreOfRun : Type 0
 LookUpsAreOfRun = (slots : ℕ) (words : Table) (s : Locked) (seat : ℕ) (seen : List Link)
     → AreItsWords slots words s → HasSeen words seat seen
@@ -58,8 +59,8 @@ LookUpsAreOfRun = (slots : ℕ) (words : Table) (s : Locked) (seat : ℕ) (seen 
     × ((path : List ℕ) (found : Found) → led seen s.state.root path ≡ Some found
     → Leads (tree_in part) s.state.root path found)
 
--- and what the seat found before, when it had seen only so much of that, an earlier tree of the run had, or
--- the same tree: no look-up goes back in the run
+-- what the seat found earlier, when it had seen only a part of that, is in an earlier tree of the run, or in
+-- the same one: no look-up goes back in the run
 abbrev pub LookUpsGoOn : Type 0
 LookUpsGoOn = (slots : ℕ) (words : Table) (s : Locked) (seat : ℕ) (seen before : List Link)
     → AreItsWords slots words s → HasSeen words seat seen → IsLater seen before

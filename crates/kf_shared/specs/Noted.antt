@@ -1,4 +1,4 @@
--- What a history makes of the tree, of the claims, and of the stored commands.
+-- The tree, the claims and the stored commands that a history makes.
 use Rattle.std.specs.Prelude.{◌≡◌, ◌⊎◌, ℕ, Bool, true, false, List, [], ◌∷◌, ◌++◌, length, replicate, slice_set}
 use Rattle.kf_core.specs.declared.key.Key.{Key}
 use Rattle.kf_core.specs.declared.command.Command.{Command}
@@ -21,11 +21,11 @@ commands_of (Began slots root ∷ notes) = commands_of notes
 commands_of (LockTaken ∷ notes) = commands_of notes
 commands_of (LockReleased ∷ notes) = commands_of notes
 
--- the tree of this many slots that a history made of only the root
+-- the tree of this many slots that a history makes from a tree of only the root
 abbrev pub tree_of : ℕ → Key → List Note → Tree
 tree_of slots root notes = replay (root_alone slots root) (commands_of notes)
 
--- the tree that a history made, whose first note says how many slots it has, and its root
+-- the tree that a history makes, whose first note says how many slots the tree has, and its root
 abbrev pub tree_in : List Note → Tree
 tree_in [] = []
 tree_in (Did command ∷ notes) = []
@@ -35,7 +35,7 @@ tree_in (Began slots root ∷ notes) = tree_of slots root notes
 tree_in (LockTaken ∷ notes) = []
 tree_in (LockReleased ∷ notes) = []
 
--- by slot the generation that was claimed last, after one note more
+-- for each slot the generation that was claimed last, after one more note
 abbrev pub claims_after : List ℕ → Note → List ℕ
 claims_after claims (Did command) = claims
 claims_after claims (Claimed key) = slice_set claims key.slot key.generation
@@ -49,11 +49,11 @@ abbrev pub claims_from : List ℕ → List Note → List ℕ
 claims_from claims [] = claims
 claims_from claims (note ∷ notes) = claims_from (claims_after claims note) notes
 
--- the claims that a history made in this many slots, of which none was claimed
+-- the claims that a history makes in this many slots, if none was claimed before
 abbrev pub claims_of : ℕ → List Note → List ℕ
 claims_of slots notes = claims_from (replicate slots 0) notes
 
--- the claims that a history made, whose first note says how many slots there are
+-- the claims that a history makes, whose first note says how many slots there are
 abbrev pub claims_in : List Note → List ℕ
 claims_in [] = []
 claims_in (Did command ∷ notes) = []
@@ -63,7 +63,7 @@ claims_in (Began slots root ∷ notes) = claims_of slots notes
 claims_in (LockTaken ∷ notes) = []
 claims_in (LockReleased ∷ notes) = []
 
--- one of these notes is of a compaction
+-- one of these notes is that of a compaction
 abbrev pub compacts : List Note → Bool
 compacts [] = false
 compacts (Did command ∷ notes) = compacts notes
@@ -73,7 +73,8 @@ compacts (Began slots root ∷ notes) = compacts notes
 compacts (LockTaken ∷ notes) = compacts notes
 compacts (LockReleased ∷ notes) = compacts notes
 
--- the stored commands are the canonical list of the tree at the last compaction, and what came after
+-- the stored commands are the canonical list of the tree at the last compaction, and after it the commands
+-- that came later
 pub record IsStoredSince (log : TreeLog) (notes : List Note) : Type 0 where
   pub before : List Note
   pub later : List Note
@@ -83,12 +84,13 @@ pub record IsStoredSince (log : TreeLog) (notes : List Note) : Type 0 where
   pub lists : IsCanonical (tree_of (length log.tree) log.root before) canonical
   pub stored : log.commands ≡ canonical ++ commands_of later
 
--- the stored commands are all of the history, or what a compaction left of them and what came after
+-- the stored commands are all those of the history, if there was no compaction; or they are what the last
+-- compaction left and what came later
 abbrev pub IsStored : TreeLog → List Note → Type 0
 IsStored log notes =
     ((compacts notes ≡ false) × (log.commands ≡ commands_of notes)) ⊎ IsStoredSince log notes
 
--- the history begins with the making of a tree of this many slots, of this root
+-- the history begins with the making of a tree of this many slots and with this root
 abbrev pub BeginsWith : ℕ → Key → List Note → Type 0
 BeginsWith slots root notes = (more : List Note) × (notes ≡ Began slots root ∷ more)
 
@@ -106,13 +108,13 @@ last_stored [] = Compacted
 last_stored (command ∷ []) = Did command
 last_stored (command ∷ next ∷ commands) = last_stored (next ∷ commands)
 
--- of the Master's table, nodes and view nothing changed
+-- the Master's table, nodes and view are unchanged
 pub record KeepsWords (old new : MasterState) : Type 0 where
   pub table : new.table ≡ old.table
   pub nodes : new.nodes ≡ old.nodes
   pub view : new.view ≡ old.view
 
--- this note came next in the history, and nothing else changed of the Master
+-- this note came next in the history, and the Master's table, nodes and view are unchanged
 pub record WasNoted (note : Note) (old new : MasterState) : Type 0 where
   pub words : KeepsWords old new
   pub history : history_of new.seen ≡ history_of old.seen ++ note ∷ []

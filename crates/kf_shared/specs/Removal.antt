@@ -1,4 +1,4 @@
--- Holds of a subtree, and what its doom makes of what the tree lock keeps.
+-- Holds of a subtree, and how its doom changes what the tree's lock guards.
 use Rattle.std.specs.Prelude.{◌≡◌, ◌≢◌, ◌⊎◌, List, [], ◌∷◌, ◌++◌, map, All, MatchBool, true}
 use Rattle.kf_core.specs.declared.key.Key.{Key}
 use Rattle.kf_core.specs.declared.command.Command.TheVariants.{Doom}
@@ -22,20 +22,20 @@ use Rattle.kf_shared.specs.Locked.{Locked, Adds, history}
 abbrev pub keys_of : List Handle → List Key
 keys_of holds = map (λ h. h.key) holds
 
--- a new hold of the key that it names, whichever that is
+-- a new hold of its key, whichever key this is
 abbrev pub IsNew : MasterState → Handle → Type 0
 IsNew m hold = IsNewHold m hold.key hold
 
--- the same hold, of which nothing changed but what it has seen
+-- the same hold; nothing changed except what it has seen
 abbrev pub HasHeard : Handle → Handle → Type 0
 HasHeard hold last = last ≡ having_seen last.seen hold
 
--- new holds, and the given one last, of which nothing changed but what it has seen
+-- new holds and, as the last, the given one, of which nothing changed except what it has seen
 abbrev pub AreHolds : MasterState → Handle → List Handle → Type 0
 AreHolds m hold holds = (front : List Handle) × (last : Handle) × (holds ≡ front ++ last ∷ [])
     × HasHeard hold last × All (IsNew m) front
 
--- the last hold has seen this beginning of the run
+-- there is a last hold, and it has seen exactly this beginning of the run
 abbrev pub EndsSeeing : List Handle → Seen → Type 0
 EndsSeeing holds seen =
     (front : List Handle) × (last : Handle) × (holds ≡ front ++ last ∷ []) × (last.seen ≡ seen)
@@ -45,8 +45,8 @@ abbrev pub CameAfter : Locked → Handle → Type 0
 CameAfter old hold =
     is_linked old.state.tree hold.key ≡ true → IsPrefix (history_of hold.seen) (history old)
 
--- if the node was linked, the last hold has seen all that the Master has when its doom is done: the whole
--- history, which ends by the doom
+-- if the node was linked, the last hold has seen all that the Master has seen when the doom is done: the
+-- whole history, whose last note is the doom
 abbrev pub SawItsDoom : Locked → Locked → Handle → List Handle → Type 0
 SawItsDoom old new hold holds = is_linked old.state.tree hold.key ≡ true → EndsSeeing holds new.master.seen
 
@@ -56,35 +56,36 @@ abbrev pub DoomHolds : Tree → Handle → List Handle → Type 0
 DoomHolds t hold holds =
     MatchBool (is_linked t hold.key) (IsPostOrder t hold.key (keys_of holds)) (holds ≡ hold ∷ [])
 
--- the node and all below it are doomed, and that is stored; if it is no longer linked the tree is as
+-- the node and all below it are doomed, and that is stored; if the node is no longer linked, the tree is as
 -- before
 abbrev pub DoomMarked : Locked → Locked → Key → Type 0
 DoomMarked old new key = MatchBool (is_linked old.state.tree key)
     (IsAccepted old.state new.state (doom_cause old.state.tree old.state.root key) (Doom key))
     (new.state ≡ old.state)
 
--- the node and all below it are doomed, and that is stored; if it is no longer linked nothing is changed,
--- and no word step is made
+-- the node and all below it are doomed, and that is stored; if the node is no longer linked, nothing is
+-- changed, and no word step is made
 abbrev pub DoomDone : Locked → Locked → Key → Type 0
 DoomDone old new key = MatchBool (is_linked old.state.tree key)
     (IsAccepted old.state new.state (doom_cause old.state.tree old.state.root key) (Doom key)) (new ≡ old)
 
--- the doom was noted, if the node is linked; else no note was added
+-- if the node is linked, its doom was noted; otherwise no note was added
 abbrev pub DoomNoted : Locked → Locked → Key → Type 0
 DoomNoted old new key =
     MatchBool (is_linked old.state.tree key) (Adds old new (Did (Doom key))) (history new ≡ history old)
 
--- the same, and then the claim of the node
+-- the same, and then the claim of the node was noted
 abbrev pub SelfDoomNoted : Locked → Locked → Key → Type 0
 SelfDoomNoted old new key = MatchBool (is_linked old.state.tree key)
     (history new ≡ (history old ++ Did (Doom key) ∷ []) ++ Claimed key ∷ [])
     (history new ≡ history old ++ Claimed key ∷ [])
 
--- a load found as many holds of a node of the subtree as there may be
+-- a load found a node of the subtree with the greatest number of holds
 abbrev pub FoundFullIn : Tree → Key → MasterView → Type 0
 FoundFullIn t top m = (key : Key) × (in_subtree t top key ≡ true) × FoundFull m key.slot
 
--- a load found as many holds of a node below the top as there may be; of the top a hold is at hand
+-- a load found a node below the top with the greatest number of holds; the caller already has a hold of the
+-- top
 abbrev pub FoundFullBelow : Tree → Key → MasterView → Type 0
 FoundFullBelow t top m = (key : Key) × (key ≢ top) × (in_subtree t top key ≡ true) × FoundFull m key.slot
 
@@ -94,16 +95,16 @@ pub record IsBelow (t : Tree) (top key : Key) : Type 0 where
   pub linked : is_linked t key ≡ true
   pub below : in_subtree t top key ≡ true
 
--- of each linked node below the top a load found room for a hold more
+-- for each linked node below the top, a load found room for another hold
 abbrev pub FoundRoomBelow : Tree → Key → MasterView → Type 0
 FoundRoomBelow t top m = (key : Key) → IsBelow t top key → FoundRoom m key.slot
 
--- of the top, and of each linked node below it, a load found room for a hold more
+-- for the top, and for each linked node below it, a load found room for another hold
 abbrev pub FoundRoomIn : Tree → Key → MasterView → Type 0
 FoundRoomIn t top m = FoundRoom m top.slot × FoundRoomBelow t top m
 
--- why holds are refused: one of the nodes has no room for a hold; or each of them has, and there was no
--- memory
+-- why holds are refused: one of the nodes has no room for another hold; or each of them has room, and there
+-- was no memory
 abbrev pub PinsRefused : Type 0 → Type 0 → Refusal → Type 0
 PinsRefused Full Room refusal = ((refusal ≡ TooManyHolds) × Full) ⊎ ((refusal ≡ NoMemory) × Room)
 
@@ -115,15 +116,15 @@ HoldsBelowRefused t top m refusal = PinsRefused (FoundFullBelow t top m) (FoundR
 abbrev pub HoldsInRefused : Tree → Key → MasterView → Refusal → Type 0
 HoldsInRefused t top m refusal = PinsRefused (FoundFullIn t top m) (FoundRoomIn t top m) refusal
 
--- the doom of a linked node was given up: it is of the root; else a node below was found full, or memory was
--- refused
+-- why the doom of a linked node was given up: it is the root; otherwise a node below was found full, or
+-- memory was refused
 abbrev pub DoomGivenUp : TreeLog → Key → MasterView → Refusal → Type 0
 DoomGivenUp s key m refusal = MatchBool (same_key key s.root)
     (refusal ≡ Invalid)
     (((refusal ≡ TooManyHolds) × FoundFullBelow s.tree key m) ⊎ (refusal ≡ NoMemory))
 
--- why a doom is refused: it is of the root; else the holds were refused; if the node is no longer linked
--- there was no memory
+-- why a doom is refused: the node is the root; otherwise the holds of the nodes below were refused. If the
+-- node is no longer linked, there was no memory
 abbrev pub DoomRefused : Locked → Locked → Key → Refusal → Type 0
 DoomRefused old new key refusal = MatchBool (is_linked old.state.tree key)
     (MatchBool (same_key key old.state.root)
@@ -131,8 +132,8 @@ DoomRefused old new key refusal = MatchBool (is_linked old.state.tree key)
     (HoldsBelowRefused old.state.tree key new.master.view refusal))
     (refusal ≡ NoMemory)
 
--- why a self-removal is refused: it is of the root; else the slot has had a later node, or the holds were
--- refused
+-- why a self-removal is refused: the node is the root; otherwise the slot has had a later node, or it has not
+-- and the holds of the subtree were refused
 abbrev pub SelfRemovalRefused : Locked → Locked → Key → Refusal → Type 0
 SelfRemovalRefused old new key refusal = MatchBool (same_key key old.state.root)
     (refusal ≡ Invalid)

@@ -1,4 +1,5 @@
-//! Holds of what paths name, for one thread: without the tree's lock if that can be, and else under it.
+//! Holds of the nodes that paths name, for one thread: without the tree's lock if possible, otherwise under
+//! it.
 ghost use Rattle.std.specs.Prelude.{◌≡◌, ◌<◌, ◌⊎◌, IfErr, IfOk, IfSome};
 ghost use Rattle.kf_live.specs.Live.{Say};
 ghost use Rattle.kf_live.specs.Lookers.{links_seen};
@@ -22,10 +23,11 @@ use std::alloc::Global;
 use std::marker::{Model, PhantomData};
 use std::sync::Wait;
 
-/// What one thread makes holds of paths by: a looker of a tree, and a maker of the holds of the same tree,
-/// which keeps a hold of the root. Each thread has its own.
+/// Makes holds of the nodes that paths name, for one thread. It has a looker of a tree, and a maker of holds
+/// of the same tree, which keeps a hold of the root. Each thread has its own `PathHolder`.
 ///
-/// In a tree that was not made `with_looks` each hold takes the lock. It must be spent, by `end`.
+/// In a tree that was not made `with_looks`, each hold takes the lock. A `PathHolder` must be passed to
+/// `end`.
 pub struct PathHolder<N: Naming> {
     looker: Lookup,
     holds: Holds,
@@ -44,7 +46,7 @@ impl<N: Naming> Model for PathHolder<N> {
 }
 
 impl<N: Naming> Locked<N> {
-    /// Passes on to a maker's own hold all that the history says.
+    /// Lets a maker's own hold see the whole history.
     fn tell_maker(&mut self, holds: &mut Holds)
         requires table { holds.old.by.table ≡ N.table }
         ensures seat { IsSameSeat holds.old.by holds.new.by }
@@ -59,9 +61,9 @@ impl<N: Naming> Locked<N> {
 }
 
 impl<N: Naming> PathHolder<N> {
-    /// A holder for the tree of a guard, whose looker was informed of all that the tree says now.
+    /// Makes a holder for the tree of an editor. Its looker has now seen all that the tree says.
     ///
-    /// Refusals: TooManyHolds (of the root there are as many holds as there may be), NoMemory.
+    /// Refusals: TooManyHolds (the root was found with the greatest number of holds), NoMemory.
     pub fn new(alloc: Global, editor: &mut Editor<'_, N>) -> Result<PathHolder<N>, Refusal>
         ensures told { IfOk result (λ holder.
             0 < holder.looker.slots → Say (links_seen holder.looker) editor.old.state.tree) }
@@ -85,14 +87,14 @@ impl<N: Naming> PathHolder<N> {
         }
     }
 
-    /// A hold of the live node that a path names, with no lock of the tree and no wait: a look-up finds its
-    /// key, and the maker counts a hold of it. The path led to the node at the moment of the look-up, and the
-    /// node was still linked when the hold was counted. So the hold is as good as one that was taken at that
-    /// moment, and nobody looks a second time. (It is the caller's to `enter`, which says whether the node is
-    /// live then.)
+    /// Makes a hold of the live node that a path names, without taking the tree's lock and without waiting. A
+    /// look-up finds the node's key, and the maker counts a hold of this key. The path led to the node at the
+    /// moment of the look-up, and the node was still linked when the hold was counted. So the hold is as good
+    /// as one that was taken at the moment of the look-up, and no second look-up is needed. (The hold's
+    /// `enter` says whether the node is live at a later moment.)
     ///
-    /// None is no refusal: ask under the lock, as [`PathHolder::hold`] does. `Lookup::look` found nothing, or
-    /// `Holds::pin` refused.
+    /// None is not a refusal: `Lookup::look` found nothing, or `Holds::pin` refused. Ask under the lock then,
+    /// as [`PathHolder::hold`] does.
     pub fn try_hold(&mut self, path: &[u8]) -> Option<Hold>
         ensures same { IsSameHolder self.old self.new }
         ensures table { IfSome result (λ hold. hold.table ≡ N.table) }
@@ -108,7 +110,8 @@ impl<N: Naming> PathHolder<N> {
         }
     }
 
-    /// Its own hold learns the whole history: so it knows in which tree something is found under this lock.
+    /// Lets the holder's own hold see the whole history, so it knows in which tree something is found under
+    /// this lock.
     pub fn learn(&mut self, editor: &mut Editor<'_, N>)
         ensures looker { self.new.looker ≡ self.old.looker }
         ensures seat { IsSameSeat self.old.holds.by self.new.holds.by }
@@ -121,7 +124,7 @@ impl<N: Naming> PathHolder<N> {
         editor.guard.tell_maker(&mut self.holds);
     }
 
-    /// A hold of the live node that a path names, under a lock that was just taken.
+    /// Makes a hold of the live node that a path names, under a lock that was just taken.
     fn hold_locked(&mut self, editor: &mut Editor<'_, N>, path: &[u8]) -> Result<Hold, Refusal>
         requires whole { IsWhole N.table editor.old }
         requires taken { IsTaken (history editor.old) }
@@ -137,14 +140,15 @@ impl<N: Naming> PathHolder<N> {
         editor.hold(key)
     }
 
-    /// A hold of the live node that a path names: without the lock of this tree if that can be, and else
-    /// under it. What it found under the lock was so in the tree of the history when the lock was taken, and
-    /// the holder's own hold has seen that history.
+    /// Makes a hold of the live node that a path names, without the tree's lock if possible, otherwise under
+    /// it. What it finds under the lock is what the tree had at the moment when the lock was taken, and the
+    /// holder's own hold has seen the history up to that moment.
     ///
-    /// Refusals, in order: those of [`kf_tree::State::lookup`]; TooManyHolds (as many holds as
-    /// there may be), NoMemory. They are found under the lock.
+    /// Refusals, in order: those of [`kf_tree::State::lookup`]; TooManyHolds (the node was found with the
+    /// greatest number of holds), NoMemory. They are found under the lock.
     ///
-    /// Context: takes the tree's lock if [`PathHolder::try_hold`] finds nothing; its caller must not have it.
+    /// Context: takes the tree's lock if [`PathHolder::try_hold`] finds nothing; the caller must not hold the
+    /// lock.
     pub fn hold<R: Wait>(
         &mut self,
         rt: &R,
@@ -164,7 +168,8 @@ impl<N: Naming> PathHolder<N> {
         self.hold_locked(&mut tree.edit(rt), path)
     }
 
-    /// Gives a hold of the same tree back, in one word step. The next one is made with what it had of memory.
+    /// Releases a hold of the same tree, in one word step. The next hold is made with the memory that this
+    /// one had.
     ///
     /// Condition: the hold is of this tree's table.
     pub fn release(&mut self, hold: Hold)
@@ -175,7 +180,7 @@ impl<N: Naming> PathHolder<N> {
         self.holds.release(hold);
     }
 
-    /// Its own hold, of the root. What it had of memory goes.
+    /// Ends the holder, frees its memory, and returns its own hold, which is of the root.
     pub fn end(self) -> Hold
         ensures { result ≡ self.holds.by }
     {

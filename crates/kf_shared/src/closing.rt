@@ -1,6 +1,6 @@
-//! A note says that the lock was taken, and another that it is about to be released: so what stands between
-//! the two was done while it was held once. A caller that learns of that before the unlock has seen it ever
-//! after.
+//! The notes at both ends of a critical section. One note says that the lock was taken, and another that it
+//! is about to be released, so the notes between them say what was done while the lock was held once. A
+//! caller that sees these notes before the unlock has seen them from then on.
 ghost use Rattle.std.specs.Prelude.{◌≡◌, [], ◌∷◌, ◌++◌, IfOk};
 ghost use mathlib.Core.List.{IsPrefix};
 ghost use Rattle.kf_core.specs.declared.caller.Phase.TheVariants as phase_of;
@@ -40,8 +40,8 @@ impl<N: Naming> Locked<N> {
         note_released(&mut self.master);
     }
 
-    /// Notes that the lock is about to be released, and passes on to the token of a file that is about to be
-    /// hidden all that was done until then.
+    /// Notes that the lock is about to be released, and lets the token of a file that is being hidden see all
+    /// that was done until then.
     pub(crate) fn close_hiding(&mut self, hiding: &mut Hiding)
         requires table { hiding.old.table ≡ N.table }
         ensures hiding { WasClosed self.old [] hiding.old hiding.new }
@@ -51,7 +51,7 @@ impl<N: Naming> Locked<N> {
         self.master.meet_hiding(hiding);
     }
 
-    /// As `close_hiding`, of a call.
+    /// Like `close_hiding`, for a call.
     pub(crate) fn close_call(&mut self, call: &mut Call)
         requires table { call.old.table ≡ N.table }
         ensures call { WasClosed self.old [] call.old call.new }
@@ -62,7 +62,7 @@ impl<N: Naming> Locked<N> {
     }
 
     /// Takes a drained node out of the tree, as `unlink` does, and notes that the lock is about to be
-    /// released. It passes on to the receipt that this is all that was done.
+    /// released. Unless the unlink is refused, the receipt has then seen that this is all that was done.
     pub(crate) fn unlink_alone(&mut self, drained: &mut Drained) -> Result<bool, Refusal>
         requires table { drained.old.table ≡ N.table }
         ensures same { HasHeard drained.old drained.new }
@@ -77,8 +77,8 @@ impl<N: Naming> Locked<N> {
         unlinked
     }
 
-    /// Shows a hidden file again, as `show` does, and notes that the lock is about to be released. It passes
-    /// on to the hold that this is all that was done.
+    /// Shows a hidden file again, as `show` does, and notes that the lock is about to be released. The hold
+    /// has then seen that this is all that was done.
     pub(crate) fn show_alone(&mut self, hidden: Hidden) -> Hold
         requires table { hidden.table ≡ N.table }
         ensures hold { IsSameSeat hidden result × WasShown hidden result }
@@ -106,8 +106,8 @@ impl<N: Naming> Locked<N> {
         ensures later { SawMore call.old.seen call.new.seen }
         ensures restored { WasRestoredAt (history self.old) (seat_view call.new) }
     {
-        self.master.meet_call(call); // all that was done so far
+        self.master.meet_call(call); // the call has now seen all that was done so far
         call.restore();
-        self.master.meet_call(call); // and nothing since
+        self.master.meet_call(call); // and that nothing was done since
     }
 }

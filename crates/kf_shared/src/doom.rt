@@ -1,4 +1,4 @@
-//! The doom of a subtree: holds of all its nodes first, then the marks.
+//! The doom of a subtree: first the holds of all its nodes, then the marks.
 ghost use Rattle.std.specs.Prelude.{◌≡◌, ◌≢◌, ◌<◌, ◌≤◌, ◌+◌, ◌++◌, ◌∷◌, [], IfOk, IfErr, OnOk, OnErr, All, true, false, not, vec_capacity, vec_len, slice_set};
 ghost use Rattle.kf_core.specs.declared.command.Command.TheVariants.{Doom};
 ghost use Rattle.kf_core.specs.declared.caller.Phase.TheVariants as phase_of;
@@ -26,8 +26,8 @@ use kf_core::{Key, Refusal};
 use kf_words::{Call, Hold, Parted};
 
 impl<N: Naming> Locked<N> {
-    /// Why the doom of a linked node is refused if memory was refused: TooManyHolds if a node below is
-    /// found full, and NoMemory if each is found to have room.
+    /// Why the doom of a linked node is refused after memory was refused: TooManyHolds if a node below is
+    /// found full, NoMemory if each is found to have room.
     fn full_or_no_memory(&mut self, key: Key) -> Refusal
         requires linked { is_linked self.old.state.tree key ≡ true }
         requires not_root { same_key key self.old.state.root ≡ false }
@@ -38,8 +38,8 @@ impl<N: Naming> Locked<N> {
         full_or_no_memory(self.state.state(), &mut self.master, key)
     }
 
-    /// The refusal that a self-removal returns: lack of memory only if no node of the subtree, its own
-    /// among them, is found full.
+    /// The refusal that a self-removal returns. It is NoMemory only if no node of the subtree, the call's own
+    /// included, is found full.
     fn memory_last(&mut self, key: Key, refusal: Refusal) -> Refusal
         requires last { refusal ≡ refusal_of.NoMemory → IsLastKey self.old.master.view key }
         ensures memory { refusal ≡ refusal_of.NoMemory →
@@ -56,7 +56,7 @@ impl<N: Naming> Locked<N> {
         full_or_no_memory(self.state.state(), &mut self.master, key)
     }
 
-    /// The refusal that the doom of a linked node returns: lack of memory only if no node below is found
+    /// The refusal that the doom of a linked node returns. It is NoMemory only if no node below is found
     /// full.
     fn memory_last_below(&mut self, key: Key, refusal: Refusal) -> Refusal
         requires linked { is_linked self.old.state.tree key ≡ true }
@@ -91,7 +91,7 @@ impl<N: Naming> Locked<N> {
         Ok((order, pins))
     }
 
-    /// Dooms the subtree, and gives the pins with the hold of its top.
+    /// Dooms the subtree, and returns the pins and, as the last, the hold of its top.
     fn mark(
         &mut self,
         order: &[Key],
@@ -131,7 +131,8 @@ impl<N: Naming> Locked<N> {
         }
     }
 
-    /// The doom of a linked node, given up if memory was refused.
+    /// Dooms the subtree of a linked node, and gives up at the first refusal that it meets. So NoMemory does
+    /// not mean yet that each node below has room.
     fn doom_linked(&mut self, hold: Hold) -> Result<Vec<Hold>, (Hold, Refusal)>
         requires table { hold.table ≡ N.table }
         requires linked { is_linked self.old.state.tree hold.key ≡ true }
@@ -159,13 +160,13 @@ impl<N: Naming> Locked<N> {
         }
     }
 
-    /// Dooms the subtree of the hold's node, and gives a hold for each of its nodes, in post-order, the given
-    /// one last.
+    /// Dooms the subtree of the hold's node, and returns a hold of each of its nodes, in post-order, the
+    /// given one last.
     ///
     /// Condition: the hold is of this table.
     ///
-    /// Refusals, in order: Invalid (the root), TooManyHolds (a node below was found to have as many holds as
-    /// there may be), NoMemory. After a refusal nothing is marked, and the hold comes back.
+    /// Refusals, in order: Invalid (the root), TooManyHolds (a node below was found with the greatest number
+    /// of holds), NoMemory. After a refusal nothing is marked, and the hold is returned.
     pub fn doom(&mut self, hold: Hold) -> Result<Vec<Hold>, (Hold, Refusal)>
         requires table { hold.table ≡ N.table }
         ensures order { IfOk result (λ holds. DoomHolds self.old.state.tree hold holds.items) }
@@ -189,7 +190,7 @@ impl<N: Naming> Locked<N> {
         }
     }
 
-    /// As `doom_linked`, where room for as many receipts is made before anything is marked.
+    /// Like `doom_linked`, but makes room for a receipt for each hold before anything is marked.
     fn start_linked(
         &mut self,
         hold: Hold,
@@ -230,7 +231,7 @@ impl<N: Naming> Locked<N> {
         }
     }
 
-    /// As `doom`, where room for as many receipts is made before anything is marked.
+    /// Like `doom`, but makes room for a receipt for each hold before anything is marked.
     pub(crate) fn start_removal(
         &mut self,
         hold: Hold,
@@ -261,8 +262,8 @@ impl<N: Naming> Locked<N> {
         }
     }
 
-    /// A new hold of a call's node, and the removal that it starts. Lack of memory is reported as it is
-    /// met.
+    /// Takes a new hold of a call's node, and starts the removal with it. NoMemory does not mean yet that
+    /// each node of the subtree has room.
     fn start_held(&mut self, call: &Call, receipts: &mut Vec<Parted>) -> Result<Vec<Hold>, Refusal>
         requires table { call.now.table ≡ N.table }
         requires not_root { same_key call.now.key self.old.state.root ≡ false }

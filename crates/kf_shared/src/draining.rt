@@ -1,5 +1,5 @@
-//! A removal that has unlocked the tree. The first of its nodes, which nobody used, have left the tree
-//! already.
+//! A removal that has unlocked the tree. The first of its nodes, which nobody used, have already left the
+//! tree.
 ghost use Rattle.std.specs.Prelude.{◌≡◌, ◌⊎◌, ◌+◌, ◌≤◌, ◌++◌, [], List, MatchResult, length, vec_capacity, vec_len};
 ghost use Rattle.std.specs.Option.{option_to_list};
 ghost use Rattle.std.specs.VecDeque.{deque_len};
@@ -26,8 +26,9 @@ use std::collections::VecDeque;
 use std::marker::{Model, PhantomData};
 use std::sync::Wait;
 
-/// The nodes of a removal, each after all that is below it: receipts of the first, which have left the tree;
-/// at most one that was seen drained and was used again; holds of the others; and room for their receipts.
+/// The nodes of a removal, each after all that is below it. There are receipts of the first nodes, which have
+/// left the tree, and holds of the last ones. In between there may be one `Drained`: its unlink was refused,
+/// or its node was no longer linked. There is room for the receipts of the nodes that are left.
 pub(crate) struct Rest<N: Naming> {
     receipts: Vec<Parted>,
     drained: Option<Drained>,
@@ -71,7 +72,7 @@ impl<N: Naming> Rest<N> {
 }
 
 impl<N: Naming> Locked<N> {
-    /// Passes on to the last of these holds all that was done so far.
+    /// Lets the last of these holds see all that was done so far.
     fn meet_back(&mut self, holds: &mut VecDeque<Hold>)
         requires table { AreOf N.table holds.old.items }
         ensures state { self.new.state ≡ self.old.state }
@@ -85,7 +86,7 @@ impl<N: Naming> Locked<N> {
         }
     }
 
-    /// The same, of the last hold or receipt of a removal.
+    /// The same for the last hold or receipt of a removal.
     fn meet_last(&mut self, rest: Rest<N>) -> Rest<N>
         ensures words { KeepsNodes self.old.master self.new.master }
         ensures met { HasMet (history self.old) self.new.master.seen rest result }
@@ -116,8 +117,8 @@ impl<N: Naming> Locked<N> {
         }
     }
 
-    /// Takes a drained node out of the tree, and returns its receipt. Err if the unlink was refused, or if
-    /// the node was not linked.
+    /// Takes a drained node out of the tree, and returns its receipt. Returns Err if the unlink was refused,
+    /// or if the node was not linked.
     fn unlink_and_part(&mut self, drained: Drained) -> Result<Parted, Drained>
         requires table { drained.table ≡ N.table }
         ensures same { MatchResult result (λ parted. IsSameSeat drained parted)
@@ -133,9 +134,10 @@ impl<N: Naming> Locked<N> {
     }
 
     /// Takes the first of these nodes out of the tree, as long as a look finds the next one doomed and
-    /// unused. It waits for none, and takes no memory.
+    /// unused, at most 64. It waits for none of them, and allocates nothing.
     ///
-    /// Conditions: the holds are of this table, there is no receipt yet, and room for one of each.
+    /// Conditions: the holds are of this table, there is no receipt yet, and there is room for one receipt
+    /// for each hold.
     fn unlink_unused(&mut self, mut holds: VecDeque<Hold>, mut receipts: Vec<Parted>) -> Rest<N>
         requires table { AreOf N.table holds.items }
         requires none { receipts.items ≡ [] }
@@ -162,9 +164,9 @@ impl<N: Naming> Locked<N> {
         Rest::new(receipts, None, holds)
     }
 
-    /// Ends what a removal does before it unlocks, which is about to come: it takes the first of the nodes
-    /// out of the tree, as long as nobody uses them, and passes on to the last hold all that was done until
-    /// the lock is released.
+    /// Does the last part of a removal before the lock is released. It takes the first of the nodes out of
+    /// the tree, as long as nobody uses them, at most 64, and lets the last hold or receipt see all that was
+    /// done until the lock is released.
     fn close_removal(&mut self, removing: Removing<N>) -> Rest<N>
         ensures ended { WasEnded self.old removing result }
     {
@@ -177,9 +179,9 @@ impl<N: Naming> Locked<N> {
     }
 }
 
-/// A removal that has unlocked the tree, and has yet to wait for those of its nodes that were in use. To a
-/// contract it is the list of the receipts that it has and of the holds, each after all that is below it. It
-/// must be spent, by [`Draining::finish`].
+/// A removal that has unlocked the tree, and has yet to finish those of its nodes that have no receipt. In
+/// contracts it is the list of its receipts and of its holds, each after all that is below it. It must be
+/// passed to [`Draining::finish`].
 pub struct Draining<'a, N: Naming> {
     tree: &'a SharedTree<N>,
     rest: Rest<N>,
@@ -196,11 +198,12 @@ impl<'a, N: Naming> Model for Draining<'a, N> {
 
 impl<N: Naming> Draining<'_, N> {
     /// Waits until the nodes are drained, and takes them out of the tree, as [`Removing::finish`] does. The
-    /// receipts stand in the order of the removal's holds, each of its hold's own seat. A receipt that the
-    /// removal had stays as it was. It takes no memory, and may never return: it waits for every callback
-    /// that runs on the nodes, its caller's own among them, and for the lock, which its caller must not have.
+    /// receipts are in the order of the removal's holds, each of its hold's own seat. A receipt that the
+    /// removal already had stays as it was. It allocates nothing, and may never return: it waits for every
+    /// callback that runs on the nodes, its caller's own included, and for the lock.
     ///
-    /// Context: sleeps; takes the tree's lock, unless no node was in use.
+    /// Context: sleeps; takes the tree's lock, unless each node already has its receipt. The caller must not
+    /// hold the lock.
     pub fn finish<R: Wait>(self, rt: &R) -> Vec<Parted>
         ensures finished { AllEnded self.entry result.items }
         ensures tables { AreOf N.table result.items }
@@ -219,10 +222,11 @@ impl<N: Naming> Draining<'_, N> {
 }
 
 impl<'a, N: Naming> Editor<'a, N> {
-    /// Unlocks as the end of a removal that was begun. Before that it takes the first of the nodes out of the
-    /// tree, in their order, as long as nobody uses them, at most 64 of them, and waits for none. So the
-    /// removal of an unused node takes the lock once. The last hold has then seen all that was done until the
-    /// lock was released. Each removal that says what was done since the lock was taken ends by this call.
+    /// Unlocks the tree after a removal was begun. Before it unlocks, it takes the first of the nodes out of
+    /// the tree, in their order, as long as nobody uses them, at most 64, and waits for none. So the removal
+    /// of one unused linked node takes the lock once. The last hold or receipt has then seen all that was
+    /// done until the lock was released. [`Editor::remove`] and [`Editor::remove_key`] unlock with this
+    /// function.
     pub fn end_removal(self, removing: Removing<N>) -> Draining<'a, N>
         ensures ended { WasEnded self.entry removing result }
     {

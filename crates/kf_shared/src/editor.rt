@@ -1,4 +1,4 @@
-//! The guard of the tree lock.
+//! The guard of a thread that may change the tree.
 ghost use Rattle.std.specs.Prelude.{◌≡◌, ◌+◌, ◌<◌, IfOk, IfErr, OnOk, OnErr, None, true, false, not, slice_set, length, List};
 ghost use Rattle.kf_core.specs.declared.key.Key.{Key};
 ghost use Rattle.kf_core.specs.declared.command.Command.{Command};
@@ -35,7 +35,7 @@ use kf_words::{Call, Drained, Hidden, Hiding, Hold};
 use std::marker::Model;
 use std::sync::RwLockWriteGuard;
 
-/// The tree while its lock is held. To a contract it is what the lock keeps.
+/// The tree while its lock is held for changes. In contracts it is what the lock guards.
 #[derive(Drop)]
 pub struct Editor<'a, N: Naming> {
     pub(crate) tree: &'a SharedTree<N>,
@@ -52,9 +52,9 @@ impl<'a, N: Naming> Model for Editor<'a, N> {
 }
 
 impl<'a, N: Naming> Editor<'a, N> {
-    /// The tree with its stored commands. What holds whenever the lock is got is said here: the tree is
+    /// The tree with its stored commands. The clauses say what holds whenever the lock is taken: the tree is
     /// lawful and the replay of its commands, and the words name the same linked, activated and doomed keys.
-    /// Each time that a name was published, look-ups led as a tree of the run has it.
+    /// Each time that a name was published, whatever look-ups led to was in a tree of the run.
     pub fn state(&self) -> &State
         ensures same { result.now ≡ self.now.state }
         ensures whole { IsWhole N.table self.now }
@@ -63,11 +63,11 @@ impl<'a, N: Naming> Editor<'a, N> {
         self.guard.state()
     }
 
-    /// A reader of names without the lock, which is informed of all that the tree says now: none of its
-    /// look-ups goes back behind that. Each finds what a tree of the one run has
+    /// Makes a looker, which finds names without the lock, and has now seen all that the tree says. None of
+    /// its look-ups finds an earlier state than this. Each of them finds what a tree of the one run has
     /// ([`look_ups_are_of_run`](crate::look_ups_are_of_run)).
     ///
-    /// Refusal: NoMemory, if the words of look-ups can have no further owner.
+    /// Refusal: NoMemory, if the words for look-ups can have no further owner.
     pub fn looker(&mut self) -> Result<Lookup, Refusal>
         ensures told { IfOk result
             (λ looker. 0 < looker.slots → Say (links_seen looker) self.old.state.tree) }
@@ -80,14 +80,16 @@ impl<'a, N: Naming> Editor<'a, N> {
         self.guard.looker()
     }
 
-    /// How many commands are stored. Each accepted one adds one, and only [`Editor::compact`] takes any away.
+    /// How many commands are stored. Each accepted command adds one, and only [`Editor::compact`] removes
+    /// any.
     pub fn stored(&self) -> usize
         ensures known { result ≡ length self.now.state.commands }
     {
         self.state().stored()
     }
 
-    /// How many commands would be stored after [`Editor::compact`], at most, as [`State::compacted`] says.
+    /// An upper bound on how many commands would be stored after [`Editor::compact`], as [`State::compacted`]
+    /// says.
     pub fn compacted(&self) -> usize
         ensures known { result + 1 ≡
             linked_count self.now.state.tree + owed_count self.now.state.tree }
@@ -97,12 +99,13 @@ impl<'a, N: Naming> Editor<'a, N> {
         self.state().compacted()
     }
 
-    /// Links a node in a directory, live if it is asked to be, under the next key of the lowest slot that
-    /// was found free (`kernfs_create_dir_ns`, `__kernfs_create_file`, `kernfs_create_link`).
+    /// Links a new node in a directory, under the next key of the lowest slot that was found free
+    /// (`kernfs_create_dir_ns`, `__kernfs_create_file`, `kernfs_create_link`). If `live` is true, the node is
+    /// also activated.
     ///
     /// Refusals, in order: NoEntry (parent not linked), NameTooLong (over 255 bytes) or Invalid (name),
-    /// NotDir, NoEntry (parent doomed), NoEntry (a link's target is not linked), Invalid (it is the root),
-    /// Exists, NoSpace (no slot was found free), NoMemory. After a refusal the tree is as before.
+    /// NotDir, NoEntry (parent doomed), NoEntry (a link's target is not linked), Invalid (a link's target is
+    /// the root), Exists, NoSpace (no slot was found free), NoMemory. After a refusal the tree is as before.
     pub fn create(
         &mut self,
         parent: Key,
@@ -140,12 +143,13 @@ impl<'a, N: Naming> Editor<'a, N> {
         self.guard.activate(key)
     }
 
-    /// Moves a node into a directory, under a name (`kernfs_rename_ns`). One that is there already stays, and
-    /// nothing is stored.
+    /// Moves a node into a directory, under a name (`kernfs_rename_ns`). If the node already has this name in
+    /// this directory, it stays as it is, and nothing is stored.
     ///
     /// Refusals, in order: Invalid (the root), NoEntry (either is not linked), NameTooLong (over 255 bytes)
-    /// or Invalid (name), NotDir, NoEntry (either is not live). Then, if it is not there already: Invalid
-    /// (the directory is in the node's own subtree), Exists, NoMemory. After a refusal the tree is as before.
+    /// or Invalid (name), NotDir, NoEntry (either is not live). Then, if the node does not already have this
+    /// place: Invalid (the directory is in the node's own subtree), Exists, NoMemory. After a refusal the
+    /// tree is as before.
     pub fn rename(&mut self, key: Key, dir: Key, name: &[u8]) -> Result<(), Refusal>
         ensures no_cause { IfOk result (λ _. move_cause self.old key dir name.now ≡ None) }
         ensures stays { IfOk result
@@ -169,10 +173,10 @@ impl<'a, N: Naming> Editor<'a, N> {
         self.guard.rename(key, dir, name)
     }
 
-    /// A new hold of a linked node (`kernfs_get`).
+    /// Takes a new hold of a linked node (`kernfs_get`).
     ///
-    /// Refusals, in order: NoEntry (not linked), TooManyHolds (the slot was found to have as many holds as
-    /// there may be), NoMemory. After a refusal the slot has the holds that it had.
+    /// Refusals, in order: NoEntry (not linked), TooManyHolds (the slot was found with the greatest number of
+    /// holds), NoMemory. After a refusal the slot has no new hold.
     pub fn hold(&mut self, key: Key) -> Result<Hold, Refusal>
         ensures hold { IfOk result (λ hold. IsHoldOfNode N.table self.old.state.tree key hold) }
         ensures pinned { OnOk result (WasPinned self.old.master.view key.slot self.new.master.view) }
@@ -184,17 +188,17 @@ impl<'a, N: Naming> Editor<'a, N> {
         self.guard.hold(key)
     }
 
-    /// Dooms the subtree of the hold's node, and gives a hold for each of its nodes: each after all that is
-    /// below it, siblings in byte order of names, the given hold last (the marking half of `kernfs_remove`).
-    /// If the node is no longer linked, only the given hold comes back and nothing is stored. If it is
-    /// linked, the doom comes after all of the history that the given hold had seen, and that hold comes back
-    /// having seen all of it, its doom last.
+    /// Dooms the subtree of the hold's node, and returns a hold of each of its nodes (the marking half of
+    /// `kernfs_remove`). Each node comes after all that is below it, siblings are in byte order of their
+    /// names, and the given hold is last. If the node is no longer linked, only the given hold is returned
+    /// and nothing is stored. If it is linked, its doom comes in the history after all that the given hold
+    /// had seen. The given hold has then seen the whole history, whose last note is the doom.
     ///
     /// Condition: the hold is of this table.
     ///
-    /// Refusals, in order: Invalid (the root), TooManyHolds (a node below was found to have as many holds as
-    /// there may be), NoMemory (each was found to have room, or the node is no longer linked). After a
-    /// refusal nothing is marked, and the hold comes back.
+    /// Refusals, in order: Invalid (the root), TooManyHolds (a node below was found with the greatest number
+    /// of holds), NoMemory (each was found to have room, or the node is no longer linked). After a refusal
+    /// nothing is marked, and the hold is returned.
     pub fn doom(&mut self, hold: Hold) -> Result<Vec<Hold>, (Hold, Refusal)>
         requires table { hold.table ≡ N.table }
         ensures order { IfOk result (λ holds. DoomHolds self.old.state.tree hold holds.items) }
@@ -211,12 +215,13 @@ impl<'a, N: Naming> Editor<'a, N> {
         self.guard.doom(hold)
     }
 
-    /// Takes a drained node out of the tree (`kernfs_unlink_sibling`). False if it is no longer linked.
+    /// Takes a drained node out of the tree (`kernfs_unlink_sibling`). Returns false if the node is no longer
+    /// linked.
     ///
     /// Condition: the receipt is of this table.
     ///
     /// Refusals of a linked node, in order: Invalid (not doomed), Busy (it has a linked child, or its word
-    /// was found in use). After a refusal nothing is changed. It takes no memory.
+    /// was found in use). After a refusal nothing is changed. It allocates nothing.
     pub fn unlink(&mut self, drained: &Drained) -> Result<bool, Refusal>
         requires table { drained.now.table ≡ N.table }
         ensures linked { IfOk result (λ unlinked. is_linked self.old.state.tree drained.now.key ≡ unlinked) }
@@ -233,15 +238,15 @@ impl<'a, N: Naming> Editor<'a, N> {
         self.guard.unlink(drained)
     }
 
-    /// Hides a file: until it is shown again each try for a reference to it is refused. The callbacks that
-    /// run there go on, and `wait_hidden` waits for them; call it while the tree is unlocked.
+    /// Hides a file: until it is shown again, each try to take a reference to it is refused. Callbacks that
+    /// already run on the file go on. `wait_hidden` waits for them; call it while the tree is unlocked.
     ///
     /// Condition: the hold is of this table.
     ///
-    /// Refusals, in order: IsDir, Invalid (a link), by the hold's own node; NoEntry (not linked, or doomed),
-    /// Busy (hidden), NoMemory. After a refusal the tree is as before and the hold comes back. One case
-    /// differs: somebody hid the key by [`Hold::hide`], beside the tree. Then Busy comes after NoMemory, and
-    /// the hold has made one word step.
+    /// Refusals, in order: IsDir, Invalid (a link), both by the kind of the hold's own node; NoEntry (not
+    /// linked, or doomed), Busy (hidden), NoMemory. After a refusal the tree is as before, and the hold is
+    /// returned. One case differs: if somebody bypassed the tree and hid the key with [`Hold::hide`], Busy
+    /// comes after NoMemory, and the hold has made one word step.
     pub fn hide(&mut self, hold: Hold) -> Result<Hiding, (Hold, Refusal)>
         requires table { hold.table ≡ N.table }
         ensures hiding { IfOk result (λ hiding. IsSameSeat hold hiding × WasHidden hold hiding) }
@@ -258,9 +263,9 @@ impl<'a, N: Naming> Editor<'a, N> {
         self.guard.hide(hold)
     }
 
-    /// Shows a hidden file again. From now on a try is let in if the node is linked, activated and not
-    /// doomed, whatever became of it meanwhile. If the node has left the tree nothing is stored. It
-    /// refuses nothing and takes no memory.
+    /// Shows a hidden file again. From then on a try succeeds if the node is linked, activated and not
+    /// doomed, whatever was done to the node while it was hidden. If the node has left the tree, nothing is
+    /// stored. It refuses nothing and allocates nothing.
     ///
     /// Condition: the token is of this table.
     pub fn show(&mut self, hidden: Hidden) -> Hold
@@ -275,8 +280,8 @@ impl<'a, N: Naming> Editor<'a, N> {
         self.guard.show(hidden)
     }
 
-    /// Puts the canonical list of commands of this tree in place of the stored ones. The tree, its keys, the
-    /// words and all holds stay.
+    /// Replaces the stored commands with the canonical list of commands of this tree. The tree, its keys, the
+    /// words and all holds stay as they are.
     ///
     /// Refusal: NoMemory. Then nothing is changed.
     pub fn compact(&mut self) -> Result<(), Refusal>
@@ -290,8 +295,9 @@ impl<'a, N: Naming> Editor<'a, N> {
         self.guard.compact()
     }
 
-    /// Unlocks, and returns the tree, on which a removal that was begun is then finished. The last note says
-    /// that the lock is released. What the lock keeps is others' from then on, so no clause speaks of it.
+    /// Unlocks, and returns the tree, on which the caller can then finish a removal that was begun. The last
+    /// note says that the lock is about to be released. From then on other threads may change what the lock
+    /// guards, so no clause speaks of it.
     pub fn let_go(self) -> &'a SharedTree<N> {
         let mut editor = self;
         let tree = editor.tree;
@@ -300,12 +306,12 @@ impl<'a, N: Naming> Editor<'a, N> {
         tree
     }
 
-    /// As `doom`, with room for the receipts made before anything is marked: [`Removing::finish`] then waits,
-    /// while the tree is unlocked, and takes no memory.
+    /// Like `doom`, but allocates room for the receipts before anything is marked. [`Removing::finish`] then
+    /// waits, while the tree is unlocked, and allocates nothing.
     ///
     /// Condition: the hold is of this table.
     ///
-    /// Refusals: those of `doom`. After a refusal nothing is marked, and the hold comes back.
+    /// Refusals: those of `doom`. After a refusal nothing is marked, and the hold is returned.
     pub fn begin_removal(&mut self, hold: Hold) -> Result<Removing<N>, (Hold, Refusal)>
         requires table { hold.table ≡ N.table }
         ensures order { IfOk result (λ removing. DoomHolds self.old.state.tree hold removing) }
@@ -334,14 +340,15 @@ impl<'a, N: Naming> Editor<'a, N> {
         }
     }
 
-    /// Begins the removal of a call's own node: takes new holds of the subtree's nodes, dooms them,
-    /// claims the node, and breaks the call's protection. True for the first that claims the node.
-    /// [`Removing::finish`] then waits, while the tree is unlocked; after that the call may be restored.
+    /// Begins the removal of a call's own node: takes new holds of the subtree's nodes, dooms these nodes,
+    /// claims the call's node, and breaks the call's protection. The `bool` is true for the first claim of
+    /// the node. [`Removing::finish`] then waits, while the tree is unlocked. After that the call may be
+    /// restored.
     ///
-    /// Conditions: the call is Running, and of this table. After an Ok it is Broken.
+    /// Conditions: the call is Running, and of this table. After an `Ok` it is Broken.
     ///
     /// Refusals: those of [`SharedTree::remove_self`]. After a refusal the call is as it was, nothing is
-    /// marked, and the node is not claimed.
+    /// marked, and no claim is made.
     pub fn begin_self_removal(&mut self, call: &mut Call) -> Result<(bool, Removing<N>), Refusal>
         requires table { call.old.table ≡ N.table }
         requires running { call.old.phase ≡ phase_of.Running }

@@ -1,4 +1,4 @@
-//! Files that are hidden and shown again: the tree's part and the words' part of each, under the lock.
+//! Hiding files and showing them again: the tree's part and the words' part of each, under the lock.
 ghost use Rattle.std.specs.Prelude.{◌≡◌, IfOk, IfErr, OnOk, OnErr, Option};
 ghost use Rattle.kf_core.specs.declared.command.Command.TheVariants.{Hide};
 ghost use Rattle.kf_core.specs.declared.refusal.Refusal.TheVariants as refusal_of;
@@ -16,7 +16,7 @@ use crate::noting::{note_compaction, note_last};
 use kf_core::{Node, Refusal};
 use kf_words::{Hidden, Hiding, Hold};
 
-/// Why a node of this kind is not hidden.
+/// Why a node of this kind cannot be hidden; None if it can.
 fn kind_fault(node: Node) -> Option<Refusal>
     ensures { result ≡ kind_cause node }
 {
@@ -28,13 +28,14 @@ fn kind_fault(node: Node) -> Option<Refusal>
 }
 
 impl<N: Naming> Locked<N> {
-    /// Hides the file of a hold: the tree is asked first, then the word, and then the tree is changed.
+    /// Hides the file of a hold: asks the tree first, then changes the word, and then changes the tree.
     ///
     /// Condition: the hold is of this table.
     ///
-    /// Refusals, in order: IsDir, Invalid (a link), by the hold's own node; NoEntry (not linked, or doomed),
-    /// Busy (hidden), NoMemory. After a refusal the tree is as before and the hold comes back. If somebody
-    /// hid the key beside the tree, by [`Hold::hide`], Busy comes last and the hold has made one word step.
+    /// Refusals, in order: IsDir, Invalid (a link), both by the kind of the hold's own node; NoEntry (not
+    /// linked, or doomed), Busy (hidden), NoMemory. After a refusal the tree is as before, and the hold is
+    /// returned. If somebody bypassed the tree and hid the key with [`Hold::hide`], Busy comes last, and the
+    /// hold has made one word step.
     pub fn hide(&mut self, hold: Hold) -> Result<Hiding, (Hold, Refusal)>
         requires table { hold.table ≡ N.table }
         ensures hiding { IfOk result (λ hiding. IsSameSeat hold hiding × WasHidden hold hiding) }
@@ -65,7 +66,7 @@ impl<N: Naming> Locked<N> {
         }
     }
 
-    /// Shows a hidden file again, in the words and, if it is linked there, in the tree.
+    /// Shows a hidden file again: in the words and, if it is linked and hidden in the tree, in the tree too.
     ///
     /// Condition: the token is of this table.
     pub fn show(&mut self, hidden: Hidden) -> Hold
@@ -85,7 +86,7 @@ impl<N: Naming> Locked<N> {
         hold
     }
 
-    /// Puts the canonical list of this tree in place of the stored commands.
+    /// Replaces the stored commands with the canonical list of this tree.
     pub fn compact(&mut self) -> Result<(), Refusal>
         ensures compacted { IfOk result (λ _. IsCompacted self.old.state self.new.state) }
         ensures noted { OnOk result (Adds self.old self.new Compacted) }

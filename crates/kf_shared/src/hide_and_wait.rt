@@ -1,4 +1,4 @@
-//! Files that are hidden and shown again, by threads that do not have the lock.
+//! Hiding files, with the wait for their callbacks, and showing them again.
 ghost use Rattle.std.specs.Prelude.{◌≡◌, true, None, [], ◌∷◌, IfErr, IfOk, OnOk};
 ghost use Rattle.kf_core.specs.declared.command.Command.TheVariants.{Hide};
 ghost use Rattle.kf_core.specs.declared.caller.Phase.TheVariants as phase_of;
@@ -18,20 +18,20 @@ use kf_words::{Hidden, Hiding, Hold, wait_hidden};
 use std::sync::Wait;
 
 impl<N: Naming> SharedTree<N> {
-    /// Hides a file, and waits, while the tree is unlocked, until nobody has a reference to it: then no
-    /// callback runs there, except one that broke its own protection, and none starts until the file is
-    /// shown. The hiding is all that is done while the lock is held once, and the token has seen that.
-    /// It may never return: it waits for every callback that runs on the file, its caller's own among them,
-    /// and for the lock, which its caller must not have.
+    /// Hides a file, and waits, while the tree is unlocked, until nobody has a reference to it. Then no
+    /// callback runs on the file, except one that broke its own protection, and none starts until the file is
+    /// shown. The hiding is all that is done in its critical section, and the token has seen that. It may
+    /// never return: it waits for every callback that runs on the file, its caller's own included, and for
+    /// the lock.
     ///
     /// Condition: the hold is of this tree's table.
     ///
-    /// Refusals, in order, all before the wait: IsDir, Invalid (a link), by the hold's own node; NoEntry (not
-    /// linked, or doomed), Busy (hidden), NoMemory. After a refusal the tree is as before, and the hold comes
-    /// back. One case differs: somebody hid the key by [`Hold::hide`], beside the tree. Then Busy comes after
-    /// NoMemory, and the hold has made one word step.
+    /// Refusals, in order, all before the wait: IsDir, Invalid (a link), both by the kind of the hold's own
+    /// node; NoEntry (not linked, or doomed), Busy (hidden), NoMemory. After a refusal the tree is as before,
+    /// and the hold is returned. One case differs: if somebody bypassed the tree and hid the key with
+    /// [`Hold::hide`], Busy comes after NoMemory, and the hold has made one word step.
     ///
-    /// Context: sleeps; takes the tree's lock, which its caller must not have.
+    /// Context: sleeps; takes the tree's lock, which the caller must not hold.
     pub fn hide<R: Wait>(&self, rt: &R, hold: Hold) -> Result<Hidden, (Hold, Refusal)>
         requires table { hold.table ≡ N.table }
         ensures same { IfOk result (λ hidden. IsSameSeat hold hidden) }
@@ -45,12 +45,12 @@ impl<N: Naming> SharedTree<N> {
         self.edit(rt).hide_and_wait(rt, hold)
     }
 
-    /// Shows a hidden file again, under the lock, which its caller must not have. That is all that is done
-    /// while the lock is held once, and the hold has seen that. It refuses nothing and takes no memory.
+    /// Shows a hidden file again, under the lock. That is all that is done in this critical section, and the
+    /// hold has seen that. It refuses nothing and allocates nothing.
     ///
     /// Condition: the token is of this tree's table.
     ///
-    /// Context: sleeps; takes the tree's lock, which its caller must not have.
+    /// Context: sleeps; takes the tree's lock, which the caller must not hold.
     pub fn show<R: Wait>(&self, rt: &R, hidden: Hidden) -> Hold
         requires table { hidden.table ≡ N.table }
         ensures hold { IsSameSeat hidden result × WasShown hidden result }
@@ -63,8 +63,8 @@ impl<N: Naming> SharedTree<N> {
 }
 
 impl<'a, N: Naming> Editor<'a, N> {
-    /// Unlocks after `hide`, and passes on to its token all that was done up to then. [`wait_hidden`] then
-    /// waits.
+    /// Unlocks after `hide`, and lets the token see all that was done until the lock was released.
+    /// [`wait_hidden`] then waits.
     ///
     /// Condition: the token is of this table.
     pub fn end_hiding(self, hiding: &mut Hiding) -> &'a SharedTree<N>
@@ -78,14 +78,14 @@ impl<'a, N: Naming> Editor<'a, N> {
         tree
     }
 
-    /// As `hide`, and then it unlocks and waits until nobody has a reference to the file, as
+    /// Like `hide`, but then unlocks the tree and waits until nobody has a reference to the file, as
     /// [`SharedTree::hide`] does.
     ///
     /// Condition: the hold is of this table.
     ///
     /// Refusals: those of `hide`. After a refusal the tree is as before, and unlocked.
     ///
-    /// Context: sleeps, once it has unlocked.
+    /// Context: sleeps once it has unlocked the tree.
     pub fn hide_and_wait<R: Wait>(self, rt: &R, hold: Hold) -> Result<Hidden, (Hold, Refusal)>
         requires table { hold.table ≡ N.table }
         ensures same { IfOk result (λ hidden. IsSameSeat hold hidden) }

@@ -1,18 +1,21 @@
-//! The tree behind one lock, and removal that waits for its callers.
+//! The tree behind one lock, and removals that wait for the callers of the removed nodes.
 //!
-//! - `SharedTree::new` gives a `NewTree`, and `named` its name `N: Naming`, by which the checker knows which
-//!   tree a hold belongs to. `edit` locks it for one `Editor`, `read` shares it among `Reader`s.
-//! - `Editor` has the commands of `kf_tree`, `hold` for a node's holds, and removals: `remove`, `remove_key`,
-//!   `remove_path` mark, unlink what nobody uses, and unlock. Then they wait and unlink the rest, up to 64
-//!   nodes in a turn of the lock. They return a receipt (`Parted`) for each node. After `begin_removal`,
-//!   `end_removal` unlocks and `Draining::finish` waits. A callback removes its own node by `remove_self`.
+//! - `SharedTree::new` makes a `NewTree`. `named` turns it into a `SharedTree<N>`: by the name `N: Naming`
+//!   the checker knows which tree a hold belongs to. `edit` locks the tree for one `Editor`, and `read`
+//!   shares it among `Reader`s.
+//! - `Editor` has the commands of `kf_tree`, `hold` for holds of a node, and removals. `remove`, `remove_key`
+//!   and `remove_path` mark the nodes, unlink the first of them as long as nobody uses them, at most 64, and
+//!   unlock. Then they wait for the rest and unlink it, up to 64 nodes in a turn of the lock. They return a
+//!   receipt (`Parted`) for each node. After `begin_removal`, `end_removal` unlocks and `Draining::finish`
+//!   waits. A callback removes its own node with `remove_self`.
 //! - `Locked` is the same tree for a program that has a lock of another kind.
-//! - `SharedTree::with_looks` keeps words for look-ups too: an `Editor` gives a `Lookup`, by which a thread
-//!   finds names without the lock (`kf_live`). A `PathHolder` takes holds of them. Other trees store none.
+//! - `SharedTree::with_looks` makes a tree that also keeps words for look-ups. `Editor::looker` returns a
+//!   `Lookup`, with which a thread finds names without the lock (`kf_live`). A `PathHolder` finds nodes in
+//!   the same way, and takes holds of them. Other trees store no such words.
 //!
-//! A caller shows that what it hands in is of this tree (`table`: kept by the types if one name `N` is
-//! used), and that a call that removes itself runs. `running_tree` is the law of words, tree and lock
-//! together.
+//! A caller proves that the holds, calls, receipts and tokens that it passes are of this tree (the condition
+//! `table`; the types ensure it if only one name `N` is used). For a self-removal, the caller also proves
+//! that the call is Running. `running_tree` is the law about words, tree and lock together.
 #![tactic(auto)]
 
 mod by_path;

@@ -1,4 +1,4 @@
-//! What the tree lock keeps, and its commands on one node.
+//! What the tree's lock guards, and its commands on one node.
 ghost use Rattle.std.specs.Prelude.{◌≡◌, ◌<◌, IfOk, IfErr, IfSome, OnOk, OnErr, Some, None, is_some, true, false, not, slice_set};
 ghost use Rattle.kf_core.specs.declared.key.Key.{Key};
 ghost use Rattle.kf_core.specs.declared.command.Command.TheVariants.{Create, Activate, Rename, Unlink};
@@ -26,8 +26,8 @@ use kf_words::{Counts, Drained, Hold, Master};
 use std::alloc::Global;
 use std::marker::{Model, PhantomData};
 
-/// The tree with its commands, the Master of the words, and by slot the generation that was last claimed by a
-/// self-removal.
+/// What the tree's lock guards: the tree with its commands, the Master of the words, and for each slot the
+/// generation that a self-removal claimed last.
 pub struct Locked<N: Naming> {
     pub(crate) alloc: Global,
     pub(crate) state: LiveTree,
@@ -36,8 +36,8 @@ pub struct Locked<N: Naming> {
     pub(crate) name: PhantomData<N>,
 }
 
-/// What the lock keeps is dropped here: so no crate that drops a tree or an `Editor` proves that of each of
-/// the tree's parts once more.
+/// Drops what the lock guards in one place. So a crate that drops a tree or an `Editor` need not prove once
+/// more that each part of the tree can be dropped.
 impl<N: Naming> Drop for Locked<N> {
     fn drop(self) {
         let Locked {
@@ -70,7 +70,7 @@ impl<N: Naming> Model for Locked<N> {
         × AreOfRun s.state.log.root s.state.links (history_of s.master.seen)) };
 }
 
-/// Puts the claim of a key into the claims by slot. False if it was there.
+/// Writes the claim of a key to its slot. Returns false if the slot's last claim was already of this key.
 fn put_claim(claims: &mut Vec<u32>, key: Key) -> bool
     ensures first { result ≡ not (is_claimed claims.old.items key) }
     ensures claimed { claims.new.items ≡ slice_set claims.old.items key.slot key.generation }
@@ -96,10 +96,10 @@ impl<N: Naming> Locked<N> {
         self.state.state()
     }
 
-    /// A reader of names without the lock, which is informed of all that the tree says now: none of its
-    /// look-ups goes back behind that.
+    /// Makes a looker, which finds names without the lock, and has now seen all that the tree says. None of
+    /// its look-ups finds an earlier state than this.
     ///
-    /// Refusal: NoMemory, if the words of look-ups can have no further owner.
+    /// Refusal: NoMemory, if the words for look-ups can have no further owner.
     pub fn looker(&mut self) -> Result<Lookup, Refusal>
         ensures told { IfOk result
             (λ looker. 0 < looker.slots → Say (links_seen looker) self.old.state.tree) }
@@ -112,8 +112,8 @@ impl<N: Naming> Locked<N> {
         self.state.looker()
     }
 
-    /// Links a node in the slot that the search for a free one found. If there is a cause against it
-    /// whichever key is next, nothing is searched.
+    /// Links a new node in a slot that the search for a free one finds. If the node is refused whatever its
+    /// key is, no slot is searched.
     pub fn create(
         &mut self,
         parent: Key,
@@ -197,7 +197,7 @@ impl<N: Naming> Locked<N> {
         Ok(())
     }
 
-    /// A new hold of a linked node.
+    /// Takes a new hold of a linked node.
     pub fn hold(&mut self, key: Key) -> Result<Hold, Refusal>
         ensures hold { IfOk result (λ hold. IsHoldOfNode N.table self.old.state.tree key hold) }
         ensures pinned { OnOk result (WasPinned self.old.master.view key.slot self.new.master.view) }
@@ -212,8 +212,8 @@ impl<N: Naming> Locked<N> {
         self.master.pin(key)
     }
 
-    /// How many hold and use a linked node, by one load of each of the two words of its slot. Returns None,
-    /// with no word step, if the node is not linked.
+    /// How many holds and users a linked node has, by one load of each of the two words of its slot. Returns
+    /// None, without a word step, if the node is not linked.
     pub fn counts(&mut self, key: Key) -> Option<Counts>
         ensures linked { is_some result ≡ is_linked self.old.state.tree key }
         ensures counted { IfSome result
@@ -223,9 +223,9 @@ impl<N: Naming> Locked<N> {
         self.master.counts(key)
     }
 
-    /// Takes a drained node out of the tree. False if it is no longer linked.
+    /// Takes a drained node out of the tree. Returns false if the node is no longer linked.
     ///
-    /// Condition: it is of this tree.
+    /// Condition: the receipt is of this tree's table.
     pub fn unlink(&mut self, drained: &Drained) -> Result<bool, Refusal>
         requires table { drained.now.table ≡ N.table }
         ensures linked { IfOk result (λ unlinked. is_linked self.old.state.tree drained.now.key ≡ unlinked) }
@@ -251,7 +251,7 @@ impl<N: Naming> Locked<N> {
         Ok(true)
     }
 
-    /// Claims the removal of a node by itself. False if it was claimed before.
+    /// Claims the self-removal of a node. Returns false if the slot's last claim was already of this node.
     pub fn claim(&mut self, key: Key) -> bool
         ensures first { result ≡ not (is_claimed self.old.claims key) }
         ensures claimed { self.new.claims ≡ slice_set self.old.claims key.slot key.generation }
@@ -264,8 +264,8 @@ impl<N: Naming> Locked<N> {
         first
     }
 
-    /// Whether a key was given in this tree, so that it names a node that is linked, or was. It makes no word
-    /// step.
+    /// Whether the slot of a key has had the key's generation, perhaps before the tree was made. It makes no
+    /// word step.
     pub fn was_given(&self, key: Key) -> bool
         ensures { result ≡ was_given self.now.master.view key }
     {
@@ -275,7 +275,7 @@ impl<N: Naming> Locked<N> {
         }
     }
 
-    /// Whether a node is linked, as the words say it too. It makes no word step.
+    /// Whether a node is linked, which the tree and the words agree on. It makes no word step.
     pub(crate) fn is_linked(&self, key: Key) -> bool
         ensures { result ≡ is_linked self.now.state.tree key }
     {

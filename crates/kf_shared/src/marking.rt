@@ -1,4 +1,4 @@
-//! The events of the words for several nodes, one after the other.
+//! Marks and activations of several nodes in the words, one after the other.
 ghost use Rattle.std.specs.Prelude.{◌≡◌, All, is_some, true, [], ◌∷◌};
 ghost use Rattle.kf_tree.specs.SlotMarks.{marks_at, Changed, doomed_if, risen_if};
 ghost use Rattle.kf_shared.specs.Agreement.{OnlyMarks};

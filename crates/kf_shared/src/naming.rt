@@ -1,9 +1,9 @@
-//! Which table of words a tree goes with.
+//! Names that say which table of words a tree goes with.
 
 use std::marker::Brand;
 
-/// A name for one table of words, which exists only in proofs. Whoever calls a function that is generic over
-/// it says in one line of its proof which table is meant; a program passes [`Brand`].
+/// A name for one table of words, which exists only in proofs. If a function is generic over this name, the
+/// proof of each caller says in one line which table is meant. Programs pass [`Brand`].
 pub trait Naming {
     ghost use Rattle.kf_words.specs.Callers.{TableId};
 

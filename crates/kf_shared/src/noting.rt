@@ -1,4 +1,4 @@
-//! What is done under the lock, noted in the history that the words keep.
+//! Notes of what is done under the lock, in the history that the words keep.
 ghost use Rattle.kf_words.specs.declared.note.Note.TheVariants.{Claimed, Compacted, Began, LockTaken, LockReleased};
 ghost use Rattle.std.specs.Prelude.{length};
 ghost use Rattle.kf_shared.specs.Noted.{WasNoted, last_stored};
@@ -15,14 +15,14 @@ pub(crate) fn note_last(master: &mut Master, state: &LiveTree)
     master.note::<Brand, LiveTree>(state);
 }
 
-/// Notes that a removal of a node by itself was claimed.
+/// Notes that the self-removal of a node was claimed.
 pub(crate) fn note_claim(master: &mut Master, key: Key)
     ensures { WasNoted (Claimed key) master.old master.new }
 {
     master.note::<Brand, Key>(&key);
 }
 
-/// Notes that the stored commands gave way to the canonical list.
+/// Notes that the stored commands were replaced by the canonical list.
 pub(crate) fn note_compaction(master: &mut Master)
     ensures { WasNoted Compacted master.old master.new }
 {

@@ -11,7 +11,7 @@ use kf_tree::State;
 use kf_words::{Hold, Master, Parted};
 use std::alloc::Global;
 
-/// Gives these holds back: nothing is left of them that a clause could speak of.
+/// Releases these holds. It has no clauses, since nothing is left of the holds that a clause could speak of.
 pub fn release_each(mut holds: Vec<Hold>) {
     while let Some(hold) = holds.pop() {
         hold.release();
@@ -19,11 +19,12 @@ pub fn release_each(mut holds: Vec<Hold>) {
     holds.destroy_empty();
 }
 
-/// A new hold of each of these linked nodes, and room for one hold more. On a refusal no hold is left.
+/// Takes a new hold of each of these linked nodes, in a list with room for one more. After a refusal no new
+/// hold is left.
 ///
 /// Condition: each is linked.
 ///
-/// Refusals: TooManyHolds (a node was found to have as many holds as there may be), NoMemory.
+/// Refusals: TooManyHolds (a node was found with the greatest number of holds), NoMemory.
 pub fn pin_each(master: &mut Master, alloc: Global, keys: &[Key]) -> Result<Vec<Hold>, Refusal>
     requires linked { All (λ key. is_some (marks_at master.old.view.slots key) ≡ true) keys.now }
     ensures kept { KeepsNodes master.old master.new }
@@ -50,10 +51,10 @@ pub fn pin_each(master: &mut Master, alloc: Global, keys: &[Key]) -> Result<Vec<
     Ok(holds)
 }
 
-/// What a removal returns if memory was refused: TooManyHolds if a node below the top is found full,
-/// and NoMemory if each is found to have room. It takes no memory, and looks only at the nodes below.
+/// What a removal returns after memory was refused: TooManyHolds if a node below the top is found full,
+/// NoMemory if each is found to have room. It allocates nothing, and looks only at the nodes below the top.
 ///
-/// Condition: the words and the tree have as many slots.
+/// Condition: the words and the tree have the same number of slots.
 pub fn full_or_no_memory(state: &State, master: &mut Master, top: Key) -> Refusal
     requires slots { length master.old.view.slots ≡ length state.now.tree }
     ensures kept { KeepsNodes master.old master.new }
@@ -73,7 +74,7 @@ pub fn full_or_no_memory(state: &State, master: &mut Master, top: Key) -> Refusa
     Refusal::NoMemory
 }
 
-/// A list of only this hold.
+/// A list with only this hold.
 pub fn alone(alloc: Global, hold: Hold) -> Result<Vec<Hold>, (Hold, Refusal)>
     ensures holds { IfOk result (λ holds. holds.items ≡ hold ∷ []) }
     ensures refused { IfErr result (λ r. (r.0 ≡ hold) × (r.1 ≡ refusal_of.NoMemory)) }
@@ -87,7 +88,7 @@ pub fn alone(alloc: Global, hold: Hold) -> Result<Vec<Hold>, (Hold, Refusal)>
     }
 }
 
-/// As `alone`, where room for one receipt more is made first.
+/// Like `alone`, but first makes room for one more receipt.
 pub fn alone_with_room(
     alloc: Global,
     hold: Hold,

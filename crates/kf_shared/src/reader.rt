@@ -1,4 +1,4 @@
-//! The guard of those who only look.
+//! The guard of threads that only read the tree.
 ghost use Rattle.std.specs.Prelude.{◌≡◌};
 ghost use Rattle.kf_shared.specs.Locked.{IsWhole};
 ghost use Rattle.kf_shared.specs.LookUps.{IsLedInRun};
@@ -9,8 +9,8 @@ use kf_tree::State;
 use std::marker::Model;
 use std::sync::RwLockReadGuard;
 
-/// The tree while its lock is held only to look: many threads may have a `Reader` at once, and none an
-/// [`Editor`](crate::Editor) meanwhile. To a contract it is what the lock keeps.
+/// The tree while its lock is held for reading. Many threads may have a `Reader` at once, and none has an
+/// [`Editor`](crate::Editor) meanwhile. In contracts it is what the lock guards.
 #[derive(Drop)]
 pub struct Reader<'a, N: Naming> {
     pub(crate) guard: RwLockReadGuard<'a, Locked<N>>,

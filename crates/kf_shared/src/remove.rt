@@ -1,4 +1,4 @@
-//! Removal that waits: until every node that it dooms is drained and out of the tree.
+//! Removal that waits until every node that it dooms is drained and out of the tree.
 ghost use Rattle.std.specs.Prelude.{◌≡◌, ◌+◌, ◌≤◌, ◌++◌, IfErr, IfOk, OnErr, OnOk, not, vec_capacity, vec_len};
 ghost use Rattle.kf_core.specs.declared.caller.Phase.TheVariants as phase_of;
 ghost use Rattle.kf_core.specs.declared.refusal.Refusal.TheVariants as refusal_of;
@@ -18,16 +18,17 @@ use std::collections::VecDeque;
 use std::sync::Wait;
 
 impl<N: Naming> SharedTree<N> {
-    /// Waits until the hold's node is drained, takes it out of the tree under the lock, waiting on while
-    /// that is refused, and parts (`kernfs_drain`, then `kernfs_unlink_sibling`). The holds of one doom are
-    /// finished in their order: another order may wait for itself. The unlink is all that is done while the
-    /// lock is held once, and the receipt has seen that. It takes no memory, and may never return: it waits,
-    /// while the tree is unlocked, for every callback that runs on the node, its caller's own among them, and
-    /// for the lock, which its caller must not have.
+    /// Waits until the hold's node is drained, takes the node out of the tree under the lock, and returns its
+    /// receipt (`kernfs_drain`, then `kernfs_unlink_sibling`). If the unlink is refused, it waits and tries
+    /// again. The holds of one doom must be finished in their order: another order may deadlock. The unlink
+    /// is all that is done in its critical section, and the receipt has seen that.
+    ///
+    /// It allocates nothing, and may never return. While the tree is unlocked, it waits for every callback
+    /// that runs on the node, its caller's own included. It also waits for the lock.
     ///
     /// Condition: the hold is of this tree's table.
     ///
-    /// Context: sleeps; takes the tree's lock, which its caller must not have.
+    /// Context: sleeps; takes the tree's lock, which the caller must not hold.
     pub fn finish<R: Wait>(&self, rt: &R, hold: Hold) -> Parted
         requires table { hold.table ≡ N.table }
         ensures same { IsSameSeat hold result }
@@ -40,7 +41,7 @@ impl<N: Naming> SharedTree<N> {
         self.finish_drained(rt, drained)
     }
 
-    /// As `finish`, of a node that was seen drained.
+    /// Like `finish`, for a node that was already seen drained.
     pub(crate) fn finish_drained<R: Wait>(&self, rt: &R, drained: Drained) -> Parted
         requires table { drained.table ≡ N.table }
         ensures same { IsSameSeat drained result }
@@ -64,8 +65,8 @@ impl<N: Naming> SharedTree<N> {
         unreachable!()
     }
 
-    /// Takes a drained node out of the tree, and does nothing else before it unlocks. What it did the receipt
-    /// has seen.
+    /// Takes a drained node out of the tree, and does nothing else before it unlocks. The receipt has then
+    /// seen what was done.
     ///
     /// Refusals: those of `Editor::unlink`.
     fn unlink_alone<R: Wait>(&self, rt: &R, drained: &mut Drained) -> Result<bool, Refusal>
@@ -79,13 +80,13 @@ impl<N: Naming> SharedTree<N> {
     }
 
     /// Finishes the holds in their order, and adds the receipt of each to `receipts`. It waits until the
-    /// first node is drained, and takes it and those after it that nobody uses out of the tree in one turn of
-    /// the lock, at most 64; then it does the same for those that are left. In a turn nothing else is done.
-    /// It takes no memory, and may never return, as `finish`.
+    /// first node is drained. Then, in one turn of the lock, it takes this node and those after it out of the
+    /// tree, as long as nobody uses them, at most 64. It repeats this for the nodes that are left. In a turn
+    /// nothing else is done. Like `finish`, it allocates nothing and may never return.
     ///
-    /// Conditions: all are of this tree's table, and `receipts` has room for one more of each hold.
+    /// Conditions: all are of this tree's table, and `receipts` has room for one more receipt for each hold.
     ///
-    /// Context: sleeps; takes the tree's lock, which its caller must not have.
+    /// Context: sleeps; takes the tree's lock, which the caller must not hold.
     pub fn finish_each<R: Wait>(
         &self,
         rt: &R,
@@ -103,21 +104,25 @@ impl<N: Naming> SharedTree<N> {
     }
 
     /// Dooms the subtree of the hold's node, and waits until each of its nodes is drained and out of the tree
-    /// (`kernfs_remove`). The receipts stand in the order of the doom: each node after all that is below it,
-    /// siblings in byte order of names, the given hold's last. If the node is no longer linked, the receipt
-    /// is only for it. Which tree that was the history says: it had come after all that the hold had seen.
-    /// The doom, and the unlinks of the first of the nodes in their order, are all that came before the lock
-    /// was released, and the last receipt has seen that. It may never return: it waits, while the tree is
-    /// unlocked, for every callback that runs in the subtree, its caller's own among them, and for the lock,
-    /// which its caller must not have. A callback that removes its own node calls `remove_self`.
+    /// (`kernfs_remove`). The receipts are in the order of the doom: each node comes after all that is below
+    /// it, siblings are in byte order of their names, and the given hold's receipt is last. If the node is no
+    /// longer linked, its receipt is the only one.
+    ///
+    /// The subtree is that of the tree at the moment when the lock was taken, after all that the hold had
+    /// seen. The doom, and the unlinks of the first of the nodes in their order, are all that came before the
+    /// lock was released. The last receipt has seen that.
+    ///
+    /// It may never return. While the tree is unlocked, it waits for every callback that runs in the subtree,
+    /// its caller's own included. It also waits for the lock. A callback that removes its own node must call
+    /// `remove_self`.
     ///
     /// Condition: the hold is of this tree's table.
     ///
-    /// Refusals, in order: Invalid (the root), TooManyHolds (a node below was found to have as many holds as
-    /// there may be), NoMemory (each was found to have room, or the node is no longer linked). After a
-    /// refusal nothing is marked, and the hold comes back as it was.
+    /// Refusals, in order: Invalid (the root), TooManyHolds (a node below was found with the greatest number
+    /// of holds), NoMemory (each was found to have room, or the node is no longer linked). After a refusal
+    /// nothing is marked, and the hold is returned as it was.
     ///
-    /// Context: sleeps; takes the tree's lock, which its caller must not have.
+    /// Context: sleeps; takes the tree's lock, which the caller must not hold.
     pub fn remove<R: Wait>(&self, rt: &R, hold: Hold) -> Result<Vec<Parted>, (Hold, Refusal)>
         requires table { hold.table ≡ N.table }
         ensures removed { IfOk result
@@ -134,22 +139,24 @@ impl<N: Naming> SharedTree<N> {
     }
 
     /// Removes the node of a call from within its own callback (`kernfs_remove_self`). Under the lock it
-    /// takes new holds of the subtree's nodes, dooms them, claims the node, and breaks the call's
-    /// protection. It waits as `remove` does; then, under the lock, it restores the call. True for the first
-    /// self-removal of the node in the whole history, also if a plain removal is under way; every other
-    /// returns false, after its own waiting. Nothing else comes before the lock is released for the wait. The
-    /// last receipt is for the call's node, and if the node has left the tree already it is the only one. It
-    /// may never return: it waits for every other callback that runs in the subtree, and for the lock, which
-    /// its caller must not have. A callback that runs on two nodes, one above the other, waits for itself if
-    /// it removes the upper.
+    /// takes new holds of the subtree's nodes, dooms these nodes, claims the call's node, and breaks the
+    /// call's protection. Nothing else comes before the lock is released for the wait. It waits as `remove`
+    /// does, and then restores the call under the lock.
     ///
-    /// Conditions: the call is Running, and of this tree's table. After an Ok it is Restored.
+    /// The `bool` is true for the first self-removal of the node in the whole history, even if a plain
+    /// removal is under way. Every other self-removal gets false, after its own wait. The last receipt is for
+    /// the call's node. If this node has already left the tree, its receipt is the only one.
+    ///
+    /// It may never return: it waits for every other callback that runs in the subtree, and for the lock. A
+    /// callback that runs on two nodes, one above the other, deadlocks if it removes the upper one.
+    ///
+    /// Conditions: the call is Running, and of this tree's table. After an `Ok` it is Restored.
     ///
     /// Refusals, in order: Invalid (the root), NoEntry (the slot has had a later node), TooManyHolds (a node
-    /// of the subtree was found without room for a hold), NoMemory (each had room, or the node is no longer
-    /// linked). After a refusal the call is as it was, nothing is marked, and the node is not claimed.
+    /// of the subtree was found without room for a hold), NoMemory (each was found to have room). After a
+    /// refusal the call is as it was, nothing is marked, and no claim is made.
     ///
-    /// Context: sleeps; takes the tree's lock, which its caller must not have.
+    /// Context: sleeps; takes the tree's lock, which the caller must not hold.
     pub fn remove_self<R: Wait>(
         &self,
         rt: &R,
@@ -175,17 +182,18 @@ impl<N: Naming> SharedTree<N> {
 
 impl<N: Naming> Editor<'_, N> {
     /// Dooms the subtree of the hold's node, unlocks as [`Editor::end_removal`] does, and waits until each of
-    /// its nodes is drained and out of the tree (`kernfs_remove`). What was looked up under this lock is what
-    /// is removed: the receipts are of the subtree as this tree has it, in post-order, the given hold's last.
-    /// If the node is no longer linked, the receipt is only for it. The call takes the `Editor` and unlocks
-    /// itself. Like [`SharedTree::remove`] it may never return.
+    /// its nodes is drained and out of the tree (`kernfs_remove`). What the caller has looked up under this
+    /// lock is what is removed. The receipts are for the subtree as this tree has it, in post-order, with the
+    /// given hold's receipt last. If the node is no longer linked, its receipt is the only one. The function
+    /// consumes the `Editor` and unlocks the tree itself. Like [`SharedTree::remove`] it may never return.
     ///
     /// Condition: the hold is of this table.
     ///
-    /// Refusals: those of `doom`. After a refusal nothing is marked, the tree is unlocked, and the hold comes
-    /// back as it was.
+    /// Refusals: those of `doom`. After a refusal nothing is marked, the tree is unlocked, and the hold is
+    /// returned as it was.
     ///
-    /// Context: sleeps, once it has unlocked, and locks again if a node had not left the tree then.
+    /// Context: sleeps once it has unlocked the tree, and locks it again unless each node has its receipt by
+    /// then.
     pub fn remove<R: Wait>(self, rt: &R, hold: Hold) -> Result<Vec<Parted>, (Hold, Refusal)>
         requires table { hold.table ≡ N.table }
         ensures alone { IfOk result (λ receipts. Last (WasRemovedIn (history self.entry)
@@ -207,15 +215,16 @@ impl<N: Naming> Editor<'_, N> {
     }
 
     /// Removes the node of a call from within its own callback (`kernfs_remove_self`), as
-    /// [`SharedTree::remove_self`] does, of the subtree as this tree has it. True if this lock's claims
-    /// do not have the node. It unlocks before it waits, and takes it again to restore the call.
+    /// [`SharedTree::remove_self`] does. What is removed is the subtree as this tree has it. The `bool` is
+    /// true if the claims under this lock did not have the node yet. It unlocks before it waits, and locks
+    /// again to restore the call.
     ///
-    /// Conditions: the call is Running, and of this table. After an Ok it is Restored.
+    /// Conditions: the call is Running, and of this table. After an `Ok` it is Restored.
     ///
     /// Refusals: those of [`SharedTree::remove_self`]. After a refusal the call is as it was, nothing is
-    /// marked, the node is not claimed, and the tree is unlocked.
+    /// marked, no claim is made, and the tree is unlocked.
     ///
-    /// Context: sleeps, once it has unlocked, and locks again.
+    /// Context: sleeps once it has unlocked the tree, and locks it again.
     pub fn remove_self<R: Wait>(
         self,
         rt: &R,

@@ -1,4 +1,4 @@
-//! Removal of a node by its key, its name or its path, as the guard's tree has it.
+//! Removal of a node by its key, its name or its path, in the tree that an editor has locked.
 ghost use Rattle.std.specs.Prelude.{◌≡◌, Ok, IfErr, IfOk, OnErr, OnOk};
 ghost use Rattle.kf_core.specs.declared.command.Command.TheVariants.{Doom};
 ghost use Rattle.kf_core.specs.declared.key.Key.{Key};
@@ -20,8 +20,8 @@ use kf_words::Parted;
 use std::sync::Wait;
 
 impl<N: Naming> Editor<'_, N> {
-    /// Begins the removal of the node of this key, as `begin_removal` does that of a hold's node. It takes
-    /// the hold itself, which is the last of the removal's holds.
+    /// Begins the removal of the node with this key, as `begin_removal` does for the node of a hold. The
+    /// function itself takes a hold of the node, which is the last of the removal's holds.
     ///
     /// Refusals, in order: NoEntry (not linked), Invalid (the root), TooManyHolds or NoMemory, whichever is
     /// met first. After a refusal nothing is marked.
@@ -47,13 +47,13 @@ impl<N: Naming> Editor<'_, N> {
         }
     }
 
-    /// Removes the node of a key with all below it, as `remove` does. The receipts are in post-order, the
-    /// node's own last. That has seen that the doom, and the unlinks of the first of the nodes in their
-    /// order, are all that came before the lock was released.
+    /// Removes the node of a key and all that is below it, as `remove` does. The receipts are in post-order,
+    /// with the node's own receipt last. This last receipt has seen that the doom, and the unlinks of the
+    /// first of the nodes in their order, are all that came before the lock was released.
     ///
     /// Refusals: those of `begin_removal_of`. After a refusal nothing is marked, and the tree is unlocked.
     ///
-    /// Context: as `remove`.
+    /// Context: as for `remove`.
     pub fn remove_key<R: Wait>(self, rt: &R, key: Key) -> Result<Vec<Parted>, Refusal>
         ensures alone { IfOk result (λ receipts. Last (SawItsRemoval (history self.entry) key
             (keys_of receipts.items)) receipts.items) }
@@ -67,12 +67,12 @@ impl<N: Naming> Editor<'_, N> {
         Ok(draining.finish(rt))
     }
 
-    /// Removes the node of this name in a directory, live or not.
+    /// Removes the node that has this name in a directory, whether it is live or not.
     ///
     /// Refusals, in order: NoEntry (the directory is not linked), NotDir, NoEntry (no such child), then those
     /// of `begin_removal_of`. After a refusal nothing is marked, and the tree is unlocked.
     ///
-    /// Context: as `remove_key`.
+    /// Context: as for `remove_key`.
     pub fn remove_name<R: Wait>(self, rt: &R, dir: Key, name: &[u8]) -> Result<Vec<Parted>, Refusal>
         ensures tables { IfOk result (λ receipts. AreOf N.table receipts.items) }
         ensures listed { IfOk result (λ receipts. (key : Key)
@@ -85,12 +85,12 @@ impl<N: Naming> Editor<'_, N> {
         self.remove_key(rt, key)
     }
 
-    /// Removes the node that a path names, live or not; links are not followed.
+    /// Removes the node that a path names, whether it is live or not. Links are not followed.
     ///
     /// Refusals, in order: those of [`kf_tree::State::walk`], then those of `begin_removal_of`. After a
     /// refusal nothing is marked, and the tree is unlocked.
     ///
-    /// Context: as `remove_key`.
+    /// Context: as for `remove_key`.
     pub fn remove_path<R: Wait>(self, rt: &R, path: &[u8]) -> Result<Vec<Parted>, Refusal>
         ensures tables { IfOk result (λ receipts. AreOf N.table receipts.items) }
         ensures listed { IfOk result (λ receipts. (key : Key)

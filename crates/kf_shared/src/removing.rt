@@ -1,4 +1,4 @@
-//! A removal that has marked its nodes, and has yet to wait for them; and its receipts given back.
+//! A removal that has marked its nodes and has yet to wait for them, and the release of its receipts.
 ghost use Rattle.std.specs.Prelude.{◌≡◌, ◌+◌, ◌≤◌, [], vec_capacity, vec_len};
 ghost use Rattle.kf_shared.specs.Receipts.{AreOf, owners_of};
 ghost use Rattle.kf_shared.specs.Removal.{keys_of};
@@ -10,10 +10,10 @@ use kf_words::{Hold, Parted};
 use std::marker::{Model, PhantomData};
 use std::sync::Wait;
 
-/// The holds of nodes that a removal of this tree has marked, each after all that is below it, and room for
-/// their receipts. To a contract it is the list of the holds. It must be spent, by
-/// [`Editor::end_removal`](crate::Editor::end_removal), or by [`Removing::finish`] while the tree is
-/// unlocked.
+/// The holds of the nodes that a removal of this tree has marked, each after all that is below it, and room
+/// for their receipts. In contracts it is the list of the holds. It must be passed to
+/// [`Editor::end_removal`](crate::Editor::end_removal) or, while the tree is unlocked, to
+/// [`Removing::finish`].
 pub struct Removing<N: Naming> {
     holds: Vec<Hold>,
     receipts: Vec<Parted>,
@@ -36,7 +36,8 @@ impl<N: Naming> Model for Removing<N> {
 impl<N: Naming> Removing<N> {
     /// The removal of these holds' nodes.
     ///
-    /// Conditions: the holds are of this tree's table, there is no receipt yet, and room for one of each.
+    /// Conditions: the holds are of this tree's table, there is no receipt yet, and there is room for one
+    /// receipt for each hold.
     pub(crate) fn new(holds: Vec<Hold>, receipts: Vec<Parted>) -> Removing<N>
         requires table { AreOf N.table holds.items }
         requires none { receipts.items ≡ [] }
@@ -65,8 +66,8 @@ impl<N: Naming> Removing<N> {
         (holds, receipts)
     }
 
-    /// The holds of the nodes that it has marked, each after all that is below it: a caller that reports to
-    /// others of the removal reads their keys here.
+    /// The holds of the nodes that this removal has marked, each after all that is below it. A caller that
+    /// reports the removal to others reads the nodes' keys here.
     pub fn holds(&self) -> &[Hold]
         ensures known { result.now ≡ self.now }
     {
@@ -74,13 +75,15 @@ impl<N: Naming> Removing<N> {
     }
 
     /// Waits, while the tree is unlocked, until the nodes are drained, and takes them out of the tree in
-    /// their order. After each wait it takes as many as nobody uses, at most 64, in one turn of the lock, in
-    /// which it does nothing else. The receipts stand in the order of the holds, each of its hold's own seat,
-    /// and each has seen the turn of its unlink. No node is waited for before all earlier ones are out of the
-    /// tree. It takes no memory, and may never return: it waits for every callback that runs on the nodes,
-    /// its caller's own among them, and for the lock, which its caller must not have.
+    /// their order. After each wait it takes the lock for one turn. In this turn it unlinks the next nodes as
+    /// long as nobody uses them, at most 64, and does nothing else. No node is waited for before all earlier
+    /// ones are out of the tree. The receipts are in the order of the holds, each of its hold's own seat.
+    /// Each receipt has seen the turn in which its node was unlinked.
     ///
-    /// Context: sleeps; takes the tree's lock, which its caller must not have.
+    /// It allocates nothing, and may never return: it waits for every callback that runs on the nodes, its
+    /// caller's own included, and for the lock.
+    ///
+    /// Context: sleeps; takes the tree's lock, which the caller must not hold.
     pub fn finish<R: Wait>(self, rt: &R, tree: &SharedTree<N>) -> Vec<Parted>
         ensures finished { AllFinished self result.items }
         ensures tables { AreOf N.table result.items }
@@ -92,8 +95,8 @@ impl<N: Naming> Removing<N> {
     }
 }
 
-/// Gives the receipts of a removal back. Each frees its node's slot if nobody holds that any more. Nothing
-/// is left of them that a clause could speak of.
+/// Releases the receipts of a removal. Each one frees its node's slot if nobody holds the slot any longer.
+/// There are no clauses, since nothing is left of the receipts that a clause could speak of.
 pub fn release_all(mut receipts: Vec<Parted>) {
     while let Some(receipt) = receipts.pop() {
         receipt.release();

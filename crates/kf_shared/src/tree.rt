@@ -21,7 +21,8 @@ use std::alloc::{AllocError, Global};
 use std::marker::{Brand, Model, PhantomData};
 use std::sync::{RwLock, Wait};
 
-/// A tree with its words, which has no name yet: [`NewTree::named`] makes of it the tree that threads share.
+/// A tree with its words, which has no name yet. [`NewTree::named`] turns it into the tree that threads
+/// share.
 pub struct NewTree {
     pub(crate) alloc: Global,
     pub(crate) state: LiveTree,
@@ -30,7 +31,7 @@ pub struct NewTree {
     pub(crate) name: PhantomData<Brand>,
 }
 
-/// As for a [`Locked`].
+/// Drops the parts in one place, for the same reason as the `Drop` of [`Locked`].
 impl Drop for NewTree {
     fn drop(self) {
         let NewTree {
@@ -63,7 +64,8 @@ impl Model for NewTree {
         × AreOfRun s.state.log.root s.state.links (history_of s.master.seen)) };
 }
 
-/// No slot's node is claimed: generation 0 is that of no node.
+/// Claims for this many slots, of which none is claimed. The claim of an unclaimed slot is 0, since no node
+/// has generation 0.
 fn no_claims(alloc: Global, slots: u32) -> Result<Vec<u32>, AllocError>
     ensures { IfOk result (λ claims. claims.items ≡ replicate slots 0) }
 {
@@ -81,7 +83,7 @@ impl NewTree {
         self.state.state()
     }
 
-    /// The tree lent in its place, under the name of its table, for one owner or for a lock that the caller
+    /// Lends the tree in place, under the name of its table, to one owner or to a lock that the caller
     /// provides. Nothing is moved.
     ///
     /// Condition: the name is that of this tree's table of words.
@@ -95,7 +97,7 @@ impl NewTree {
         unsafe { &mut *at }
     }
 
-    /// The tree behind its lock, under the name of its table. It takes no memory.
+    /// Puts the tree behind its lock, under the name of its table. This allocates nothing.
     ///
     /// Condition: the name is that of this tree's table of words.
     pub fn named<N: Naming>(self) -> SharedTree<N>
@@ -129,7 +131,7 @@ pub struct SharedTree<N: Naming> {
 }
 
 impl SharedTree<Brand> {
-    /// The tree of only the root, a live directory of slot 0 and generation 1 (`kernfs_create_root`).
+    /// Makes a tree of only the root, a live directory with slot 0 and generation 1 (`kernfs_create_root`).
     ///
     /// Refusal: NoMemory.
     pub fn new(alloc: Global, limits: Limits) -> Result<NewTree, Refusal>
@@ -142,7 +144,8 @@ impl SharedTree<Brand> {
         SharedTree::with_looks(alloc, limits, 0, 0)
     }
 
-    /// The same, if each slot has already had `start` generations. The root has the next.
+    /// Like [`SharedTree::new`], but each slot has already had `start` generations, so the root has the next
+    /// one.
     ///
     /// Condition: `start` is at most 4294967294.
     ///
@@ -158,9 +161,9 @@ impl SharedTree<Brand> {
         SharedTree::with_looks(alloc, limits, start, 0)
     }
 
-    /// The same, with words for the look-ups of this many slots, which take 88 bytes each: nodes of higher
-    /// slots are found only under the lock. It is a function of `SharedTree::<Brand>` only; `named` gives the
-    /// tree its name afterwards.
+    /// Like [`SharedTree::new_at`], but also makes words for look-ups in the first `looks` slots, at 88 bytes
+    /// for each slot. Nodes in higher slots are found only under the lock. It is a function of
+    /// `SharedTree::<Brand>` only; `named` gives the tree its name afterwards.
     ///
     /// Conditions: `start` is at most 4294967294; `looks` is at most [`kf_core::MOST_SLOTS`].
     ///
@@ -198,17 +201,18 @@ impl SharedTree<Brand> {
 }
 
 impl<N: Naming> SharedTree<N> {
-    /// Waits until nobody else has the one lock, to look or to change. Whenever it is got, the tree is
-    /// lawful and the replay of its commands, and the words name the same linked, activated and doomed keys.
-    /// That the lock was taken is noted last in the history: what comes then is done while it is held.
+    /// Locks the tree for changes, once no other thread has it locked for reading or for changes. Whenever
+    /// the lock is taken, the tree is lawful and the replay of its commands, and the words name the same
+    /// linked, activated and doomed keys. The last note of the history says that the lock was taken, so the
+    /// notes that follow say what is done while it is held.
     ///
-    /// The lock is not reentrant: one who has an [`Editor`] and calls `edit`, `read`, `finish`, `remove`,
-    /// `remove_self`, `hide` or `show` of the same tree waits for itself. So may one who waits under it for a
-    /// drain or a hidden file: nobody can mark a node meanwhile, and a callback that is waited for may want
-    /// the lock. Under it may be called what takes no runtime: the editor's commands, and each call of a
-    /// hold, call, receipt or token.
+    /// The lock is not reentrant. A thread that has an [`Editor`] deadlocks if it calls `edit`, `read`,
+    /// `finish`, `remove`, `remove_self`, `hide` or `show` of the same tree. It may also deadlock if it waits
+    /// under the lock for a drain or a hidden file: nobody can mark a node meanwhile, and a callback that it
+    /// waits for may need the lock. Functions that take no runtime may be called under the lock: the editor's
+    /// commands, and those of a hold, call, receipt or token.
     ///
-    /// Context: sleeps; takes the tree's lock, which its caller must not have.
+    /// Context: sleeps; takes the tree's lock, which the caller must not hold.
     pub fn edit<R: Wait>(&self, rt: &R) -> Editor<'_, N>
         ensures whole { IsWhole N.table result }
         ensures led { IsLedInRun result }
@@ -223,12 +227,13 @@ impl<N: Naming> SharedTree<N> {
         editor
     }
 
-    /// Waits until nobody changes the tree, as one of any number who look at once: a [`Reader`] can change
-    /// nothing. What holds of the tree is what `edit` says. What may not be called over an [`Editor`] may
-    /// not be called over a `Reader`. Nor may a second `read`, since one who waits to edit may be let in
-    /// first.
+    /// Locks the tree for reading, once no other thread has it locked for changes. Any number of threads may
+    /// have a [`Reader`] at once; none of them can change anything. What `edit` says of the tree when the
+    /// lock is taken is true here too. What must not be called while a thread has an [`Editor`] must not be
+    /// called while it has a `Reader` either. That includes a second `read`, since a thread that waits to
+    /// edit may be let in first.
     ///
-    /// Context: sleeps; takes the tree's lock, which its caller must not have.
+    /// Context: sleeps; takes the tree's lock, which the caller must not hold.
     pub fn read<R: Wait>(&self, rt: &R) -> Reader<'_, N>
         ensures { IsWhole N.table result }
     {

@@ -1,4 +1,4 @@
-//! The turns of the lock, by which a removal takes the nodes out of the tree that it has to wait for.
+//! The turns of the lock in which a removal takes out of the tree the nodes that it had to wait for.
 ghost use Rattle.std.specs.Prelude.{◌≡◌, ◌+◌, ◌≤◌, ◌⊎◌, ◌∷◌, ◌++◌, MatchResult, IfNone, length, vec_capacity, vec_len, List};
 ghost use Rattle.std.specs.Option.{option_to_list};
 ghost use Rattle.std.specs.VecDeque.{deque_len};
@@ -18,10 +18,10 @@ use kf_words::{Drained, Hold, Master, Parted, try_drained, wait_drained};
 use std::collections::VecDeque;
 use std::sync::Wait;
 
-/// How many nodes a removal takes out of the tree, at most, before it unlocks.
+/// The greatest number of nodes that a removal takes out of the tree before it unlocks.
 pub(crate) const MOST_UNLINKED: usize = 64;
 
-/// Each of these receipts learns the whole history.
+/// Lets each of these receipts see the whole history.
 fn meet_each(master: &mut Master, receipts: &mut [Parted])
     requires table { AreOf master.old.table receipts.old }
     ensures kept { KeepsNodes master.old master.new }
@@ -32,8 +32,8 @@ fn meet_each(master: &mut Master, receipts: &mut [Parted])
     }
 }
 
-/// So does the first of the nodes that are left: it waits for nobody before it knows that all that came
-/// before it in the removal is done.
+/// Lets the first hold or `Drained` that is left see the whole history. So its seat waits for nobody before
+/// it has seen that all earlier nodes of the removal are done.
 fn meet_next(
     master: &mut Master,
     drained: Option<Drained>,
@@ -63,8 +63,9 @@ fn meet_next(
 }
 
 impl<N: Naming> Locked<N> {
-    /// Takes a drained node out of the tree, if it is linked, and returns its receipt. What it had seen came
-    /// before. Err if the unlink was refused, since the node is in use again.
+    /// Takes a drained node out of the tree, if it is linked, and returns its receipt. What the given
+    /// `Drained` had seen came before the unlink. Returns Err if the unlink was refused, since the node is in
+    /// use again or has a linked child.
     fn part_drained(&mut self, drained: Drained) -> Result<Parted, Drained>
         requires table { drained.table ≡ N.table }
         ensures same { MatchResult result (λ parted. IsSameSeat drained parted)
@@ -87,8 +88,8 @@ impl<N: Naming> Locked<N> {
     }
 
     /// Takes a drained node and those after it out of the tree, as long as a look finds the next one doomed
-    /// and unused, and adds their receipts. It waits for none. What it returns was seen drained, and is in
-    /// use again, or one too many for a turn.
+    /// and unused, and adds their receipts. It waits for none of them. A node that it returns was seen
+    /// drained, but its unlink was refused, or it is one too many for a turn.
     fn unlink_next(
         &mut self,
         first: Drained,
@@ -123,7 +124,7 @@ impl<N: Naming> Locked<N> {
         Some(next)
     }
 
-    /// What a removal does in one turn of the lock, which is about to be unlocked. The receipts, and the
+    /// What a removal does in one turn of the lock, which is about to be released. The new receipts, and the
     /// first of the nodes that are left, have then seen all of it.
     fn take_turn(
         &mut self,
@@ -149,8 +150,8 @@ impl<N: Naming> Locked<N> {
     }
 }
 
-/// Waits until the first of these nodes is drained: for the one that was drained already, only if it was
-/// found in use again. None if there is none.
+/// Waits until the first of these nodes is drained. If that node was already seen drained, it rests once, and
+/// only if the node was found in use again. Returns None if there is no node.
 ///
 /// Context: sleeps.
 fn wait_first<R: Wait>(
@@ -181,7 +182,7 @@ fn wait_first<R: Wait>(
 }
 
 impl<N: Naming> SharedTree<N> {
-    /// One turn of the lock.
+    /// Takes the lock for one turn.
     fn turn<R: Wait>(
         &self,
         rt: &R,
@@ -202,14 +203,15 @@ impl<N: Naming> SharedTree<N> {
         editor.guard.take_turn(first, holds, receipts)
     }
 
-    /// Waits for the first of these nodes, takes it and those after it that nobody uses out of the tree in
-    /// one turn of the lock, at most 64 of them, and so on, and adds the receipts. It waits for a node only
-    /// once all before it are out of the tree: a caller inside a later one may wait for that. It takes no
-    /// memory.
+    /// Takes these nodes out of the tree in their order, and adds their receipts. It waits for the first
+    /// node. Then, in one turn of the lock, it takes this node and those after it out of the tree, as long as
+    /// nobody uses them, at most 64. It repeats this for the nodes that are left. It waits for a node only
+    /// once all earlier nodes are out of the tree, since a caller inside a later node may wait for the
+    /// earlier ones to leave. It allocates nothing.
     ///
-    /// Conditions: all are of this tree's table, and `receipts` has room for one more of each.
+    /// Conditions: all are of this tree's table, and `receipts` has room for one more receipt for each.
     ///
-    /// Context: sleeps; takes the tree's lock, which its caller must not have.
+    /// Context: sleeps; takes the tree's lock, which the caller must not hold.
     pub(crate) fn finish_rest<R: Wait>(
         &self,
         rt: &R,

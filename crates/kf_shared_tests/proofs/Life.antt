@@ -1,4 +1,4 @@
--- The life of a node: at each of its moments the lock is free over what the history has made.
+-- The life of a node: at each of its moments the lock is free, and guards what the history has made.
 use Rattle.std.proofs.Common.{◌≡◌, inl, ℕ, List, [], ◌∷◌, ◌++◌, length, refl, sym, ap, subst, arith}
 use Rattle.std.specs.Prelude.{Option, None, Some}
 use Rattle.std.proofs.lemmas.Option.{none-some, same_Some}
@@ -28,7 +28,7 @@ use Rattle.kf_shared_tests.specs.Life.{root_key, first_key, next_key, create, ca
 use Rattle.kf_shared_tests.proofs.Steps.{opened, called, marked, drained, parted, again, run_called, run_marked, run_drained, run_parted, run_again}
 use Rattle.kf_shared_tests.proofs.Trees.{tree_with, dir_of, two_nodes, lawful_alone, lawful_with, same_alone, same_with, has_nodes}
 
--- one run after another
+-- a run followed by another
 joined : (a b : List StepKind) (t u v : Table) → WordRun t a u → WordRun u b v → WordRun t (a ++ b) v
 joined [] b t u v r s = subst (λ (x : Table). WordRun x b v) r s
 joined (kind ∷ kinds) b t u v r s = (r.0, r.1, joined kinds b r.0 u v r.2 s)
@@ -51,12 +51,12 @@ all_parted = joined until_drained part_steps opened drained parted all_drained r
 all_again : WordRun opened until_again again
 all_again = joined until_parted next_steps opened parted again all_parted run_again
 
--- what came after the note that the tree was made
+-- the notes after the first, which says that the tree was made
 abbrev after_first : List Note → List Note
 after_first [] = []
 after_first (note ∷ notes) = notes
 
--- the commands that are stored, in turn
+-- the commands that are stored at each moment
 abbrev created : List Command
 created = create first_key ∷ []
 
@@ -73,7 +73,7 @@ is_dir : (generation : ℕ) (marks : NodeFlags) (r : Record) → Some (dir_of ge
 is_dir generation marks r e = ap (λ (x : Record). x.node) (sym (same_Some (dir_of generation marks) r e))
 
 module _ (table : TableId) where
-  -- what the lock keeps
+  -- what the lock guards
   abbrev locked : List StepKind → Table → Option Record → List Command → List ℕ → Locked
   locked steps u o commands claims = record {
     state = record { root = root_key; tree = tree_with o; commands = commands; ready = None };
@@ -87,7 +87,7 @@ module _ (table : TableId) where
     claims = claims;
   }
 
-  -- the lock is free over it, if its parts go with one another
+  -- the lock is free and guards this, if the parts agree with one another
   free_over : (steps : List StepKind) (u : Table) (o : Option Record) (commands : List Command) (claims : List ℕ) → Lawful (tree_with o) root_key → tree_with o ≡ replay (root_alone 2 root_key) commands
       → SameMarks (master_in u.views).slots (tree_with o) → HasNodes two_nodes (tree_with o) → length (master_in u.views).slots ≡ 2 → length claims ≡ 2
       → IsNoted (locked steps u o commands claims).state claims (notes_of steps) → IsFreeLock u (locked steps u o commands claims)

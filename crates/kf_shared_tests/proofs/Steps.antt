@@ -1,4 +1,4 @@
--- The run of words of a node's life: each step is as its table says.
+-- The run on the words in a node's life: each step may be made from the table that it finds.
 use Rattle.std.proofs.Common.{true, false, [], ◌∷◌, refl, ltb-true}
 use Rattle.std.specs.Prelude.{Some, None}
 use Rattle.kf_core.specs.declared.command.Command.TheVariants.{Doom, Unlink}

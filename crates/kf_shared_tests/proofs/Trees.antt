@@ -1,4 +1,4 @@
--- The trees of a node's life: only the root, and the root with one directory. Each is lawful, and goes with
+-- The trees of a node's life: only the root, and the root with one directory. Each is lawful, and agrees with
 -- the slots of the words.
 use Rattle.std.proofs.Common.{◌≡◌, ◌⊎◌, inl, inr, ℕ, zero, suc, Bool, true, false, cond, List, [], ◌∷◌, refl, sym, ap, ◌∙◌, subst, ⊎_elim, arith, eqb}
 use Rattle.std.specs.Prelude.{Option, None, Some, slice_get, count_by, is_some}
@@ -23,7 +23,7 @@ use Rattle.kf_shared_tests.specs.Life.{root_key}
 abbrev pub root : Record
 root = root_record root_key
 
--- the directory of a generation of slot 1, with these marks
+-- the directory in slot 1, with this generation and these marks
 abbrev pub dir_of : ℕ → NodeFlags → Record
 dir_of generation marks = record {
   key = record { slot = 1; generation = generation };
@@ -34,11 +34,11 @@ dir_of generation marks = record {
   hidden = false;
 }
 
--- the tree of two slots, by the record of the second
+-- the tree of two slots, with this record in the second
 abbrev pub tree_with : Option Record → Tree
 tree_with o = Some root ∷ o ∷ []
 
--- the slots of the words, by the last generation of the second, and the marks of its node
+-- the slots of the words, with this last generation of the second and these marks of its node
 abbrev pub slots_with : ℕ → Option NodeFlags → List SlotState
 slots_with generation marks =
     record { generation = 1; marks = Some live_marks } ∷ record { generation = generation; marks = marks } ∷ []
@@ -81,7 +81,7 @@ module _ (generation : ℕ) (marks : NodeFlags) where
       (λ (b : (slot ≡ 1) × (Some dir ≡ Some r)). inr (b.0, same_Some dir r b.1))
       (which (Some dir) slot r h)
 
-  -- the parent of the root is none, and that of the directory is the root
+  -- the root has no parent, so it does not have the directory's parent
   no_parent : (r s : Record) → root ≡ r → dir ≡ s → r.parent ≡ s.parent → ⊥
   no_parent r s a b p = none-some root_key (ap (λ (x : Record). x.parent) a ∙ p ∙ ap (λ (x : Record). x.parent) (sym b))
 

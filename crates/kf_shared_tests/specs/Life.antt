@@ -1,4 +1,5 @@
--- The life of a node as tree and words say it together: at each moment that is named the tree lock is free.
+-- The life of a node as the tree and the words describe it together. At each moment that is named, the tree's
+-- lock is free.
 use Rattle.std.specs.Prelude.{◌≡◌, true, List, [], ◌∷◌, ◌++◌, Option, None, Some}
 use Rattle.kf_core.specs.declared.key.Key.{Key}
 use Rattle.kf_core.specs.declared.key.Node.TheVariants.{Dir}
@@ -30,17 +31,18 @@ first_key = record { slot = 1; generation = 1 }
 abbrev pub next_key : Key
 next_key = record { slot = 1; generation = 2 }
 
--- a live directory of one byte's name in the root
+-- the creation of a live directory in the root, with a name of one byte
 abbrev pub create : Key → Command
 create key = Create key root_key (97 ∷ []) Dir true
 
--- the tree is made, under the lock the directory, and two callers come to hold it. Caller 0 calls into it
+-- the tree is made; under the lock the directory is created, and two callers get holds of it. Caller 0 enters
+-- it
 abbrev pub call_steps : List StepKind
 call_steps = notes (Began 2 root_key) ∷ notes LockTaken ∷ loads_hold 1 ∷ stores_fresh 1 ∷ stores_node 1 0 0
     ∷ stores_node 1 1 0 ∷ stores_node 1 2 0 ∷ births 1 ∷ takes_bias 1 ∷ notes (Did (create first_key))
     ∷ loads_hold 1 ∷ pins_hold 1 ∷ splits 1 ∷ loads_hold 1 ∷ pins_hold 1 ∷ splits 1 ∷ tries 0 ∷ []
 
--- it begins to remove itself: while the lock is held once the directory is marked, and that is claimed
+-- the self-removal of caller 0 begins: in one critical section the directory is marked and claimed
 abbrev pub mark_steps : List StepKind
 mark_steps = notes LockTaken ∷ notes (Did (Doom first_key)) ∷ marks_node 1 ∷ notes (Claimed first_key)
     ∷ notes LockReleased ∷ []
@@ -48,15 +50,15 @@ mark_steps = notes LockTaken ∷ notes (Did (Doom first_key)) ∷ marks_node 1 �
 abbrev pub until_marked : List StepKind
 until_marked = call_steps ++ mark_steps
 
--- caller 1 waits until caller 0 has broken its protection, and is drained
+-- caller 1 looks, caller 0 breaks its protection, and then caller 1 sees the drain
 abbrev pub drain_steps : List StepKind
 drain_steps = looks 1 ∷ breaks 0 ∷ looks 1 ∷ []
 
 abbrev pub until_drained : List StepKind
 until_drained = until_marked ++ drain_steps
 
--- under the lock the directory is taken out, and caller 1 sees it. Under the lock caller 0 is restored, and
--- then it ends its call
+-- under the lock the directory is taken out of the tree, and caller 1 sees that. Under the lock caller 0 is
+-- restored, and then it ends its call
 abbrev pub part_steps : List StepKind
 part_steps = notes LockTaken ∷ looks_over 1 ∷ unlinks 1 ∷ notes (Did (Unlink first_key)) ∷ notes LockReleased
     ∷ parts 1 ∷ notes LockTaken ∷ restores 0 ∷ leaves 0 ∷ []
@@ -64,7 +66,7 @@ part_steps = notes LockTaken ∷ looks_over 1 ∷ unlinks 1 ∷ notes (Did (Unli
 abbrev pub until_parted : List StepKind
 until_parted = until_drained ++ part_steps
 
--- both give their holds back, and the next directory is made in the slot
+-- both callers release their holds, and the next directory is made in the slot
 abbrev pub next_steps : List StepKind
 next_steps = releases 1 ∷ releases 0 ∷ notes LockTaken ∷ loads_hold 1 ∷ stores_fresh 1 ∷ stores_node 1 0 0
     ∷ stores_node 1 1 0 ∷ stores_node 1 2 0 ∷ births 1 ∷ takes_bias 1 ∷ notes (Did (create next_key)) ∷ []
@@ -73,7 +75,7 @@ abbrev pub until_again : List StepKind
 until_again = until_parted ++ next_steps
 
 -- a moment after these steps from the opening of two slots: the rule of the words is met, and the lock is
--- free. Its Master has seen all the steps, and its tree has the key with these marks, or has it not
+-- free. Its Master has seen all the steps; in its tree the key has these marks, or none if it is not linked
 pub record Moment (table : TableId) (steps : List StepKind) (key : Key)
     (marks : Option NodeFlags) : Type 0 where
   pub words : Table
@@ -94,11 +96,11 @@ pub record NodeLife (table : TableId) : Type 0 where
   -- caller 0 runs on a live node
   pub called : Moment table call_steps first_key (Some live_marks)
   pub runs : IsCaller (world called.words) 0 first_key Running
-  -- the node is marked, and caller 0 runs still
+  -- the node is marked, and caller 0 still runs
   pub marked : Moment table until_marked first_key (Some marked_marks)
   pub marks : WordRun called.words mark_steps marked.words
   pub runs_on : IsCaller (world marked.words) 0 first_key Running
-  -- caller 1 has the receipt of its removal, and the node is linked
+  -- caller 1 has the receipt of the drain, and the node is still linked
   pub drained : Moment table until_drained first_key (Some marked_marks)
   pub drains : WordRun marked.words drain_steps drained.words
   pub receipt : IsCaller (world drained.words) 1 first_key Drained

@@ -1,4 +1,5 @@
-//! What each of a crowd does beside those who remove: one calls, one creates, two hide and show.
+//! What each thread of a crowd does beside the threads that remove: one calls, one creates, and two hide and
+//! show.
 ghost use Rattle.std.specs.Prelude.{◌<◌};
 
 use crate::fixtures::{FILE, add, removed};
@@ -17,7 +18,7 @@ fn is_over<N: Naming, R: Wait>(rt: &R, tree: &SharedTree<N>, key: Key) -> bool {
     }
 }
 
-/// Enters and leaves until it is turned away for good.
+/// Enters and leaves until it is refused for good.
 pub(crate) fn call<N: Naming, R: Wait>(rt: &R, tree: &SharedTree<N>, first: Hold) -> bool {
     let key = first.key();
     let mut hold = first;
@@ -44,7 +45,7 @@ pub(crate) fn letter(turn: u32, unit: u32) -> u8
     (turn / unit % 16) as u8 + 97
 }
 
-/// Creates in the directory, each time under another name, until it is no longer there.
+/// Creates files in the directory, each under another name, until the directory is doomed or gone.
 pub(crate) fn create<N: Naming, R: Wait>(rt: &R, tree: &SharedTree<N>, dir: Key) -> bool {
     for turn in 0..1_000_000u32 {
         let name = [
@@ -62,7 +63,8 @@ pub(crate) fn create<N: Naming, R: Wait>(rt: &R, tree: &SharedTree<N>, dir: Key)
     false
 }
 
-/// Hides the file once, and shows it again. What refused it is returned, except for another that hides it.
+/// Hides the file once, and shows it again. Returns why that was refused, except if another thread hides the
+/// file.
 fn hide_once<N: Naming, R: Wait>(rt: &R, tree: &SharedTree<N>, key: Key) -> Option<Refusal> {
     let hold = match tree.edit(rt).hold(key) {
         Ok(hold) => hold,
@@ -84,7 +86,8 @@ fn hide_once<N: Naming, R: Wait>(rt: &R, tree: &SharedTree<N>, key: Key) -> Opti
     }
 }
 
-/// Hides and shows by turns until it is refused, except for a file that another has hidden.
+/// Hides and shows the file again and again until it is refused. If another thread hides the file, it goes
+/// on.
 pub(crate) fn hide_on<N: Naming, R: Wait>(rt: &R, tree: &SharedTree<N>, key: Key) -> bool {
     for _ in 0..LOOKS {
         if let Some(refusal) = hide_once(rt, tree, key) {
@@ -94,7 +97,8 @@ pub(crate) fn hide_on<N: Naming, R: Wait>(rt: &R, tree: &SharedTree<N>, key: Key
     false
 }
 
-/// Each slot but the root's is given to a node, and there is no further one. Then they are given back.
+/// Gives each slot except the root's to a node, and checks that no further one is free. Then it removes these
+/// nodes.
 pub(crate) fn every_slot_is_free<N: Naming, R: Abort + Wait>(rt: &R, tree: &SharedTree<N>) {
     let _all = add(rt, tree, b"/all", Node::Dir, true);
     for slot in 2..16u32 {

@@ -1,4 +1,5 @@
-//! Helpers of the tests of the shared tree. Each stops the test if its call does not return what it must.
+//! Helpers for the tests of the shared tree. Each stops the test if the call that it makes does not return
+//! what it must.
 ghost use Rattle.std.specs.Prelude.{◌≡◌};
 ghost use Rattle.kf_core.specs.declared.caller.Phase.TheVariants as phase_of;
 ghost use Rattle.kf_words.specs.Callers.{IsSameSeat};
@@ -15,7 +16,7 @@ pub(crate) const FILE: Node = Node::File {
     tag: 7,
 };
 
-/// Slots of a tree, the root's counted. All have words for look-ups.
+/// How many slots a tree has, including the root's. All of them have words for look-ups.
 const SLOTS: u32 = 16;
 
 pub(crate) fn made<R: Abort>(rt: &R, alloc: Global, holds: u32) -> NewTree {
@@ -29,7 +30,7 @@ pub(crate) fn made<R: Abort>(rt: &R, alloc: Global, holds: u32) -> NewTree {
     }
 }
 
-/// The same without words for look-ups, and with generations that need all 32 bits.
+/// Like `made`, but without words for look-ups, and with generations that need all 32 bits.
 pub(crate) fn made_late<R: Abort>(rt: &R, alloc: Global, holds: u32) -> NewTree {
     let Some(limits) = Limits::new(SLOTS, holds) else {
         panic!(rt; "no such limits")
@@ -42,7 +43,7 @@ pub(crate) fn made_late<R: Abort>(rt: &R, alloc: Global, holds: u32) -> NewTree 
 
 // ---- commands, each of which takes the lock
 
-/// A node at a path, whose directory is there.
+/// Creates a node at a path whose directory exists.
 pub(crate) fn add<N: Naming, R: Abort + Wait>(
     rt: &R,
     tree: &SharedTree<N>,
@@ -101,7 +102,7 @@ pub(crate) fn enter<R: Abort>(rt: &R, hold: Hold) -> Call
     }
 }
 
-/// So many nodes are removed: the one at a path, and those below it.
+/// Removes the node at a path and those below it, and checks that there are this many.
 pub(crate) fn removed<N: Naming, R: Abort + Wait>(
     rt: &R,
     tree: &SharedTree<N>,

@@ -1,11 +1,11 @@
-//! That what `running_tree` asks for is met once a removal was seen through.
+//! A law which shows that the premises of `running_tree` can be met: a run that removes a node meets them.
 ghost use Rattle.kf_shared_tests.specs.Life.{TreeLives};
 
-/// A run of words beside a tree, from the opening of both on: a node is made, a caller runs on it, it is
-/// marked, drained and taken out, and the next is made in its slot. After each of these the tree lock is free
-/// over a value that is whole, of which the history has made the tree, the claims and the stored commands. So
-/// each premise of `running_tree`'s clauses is met at one of these moments, except for that of a hidden file,
-/// which `words_life` meets. It does nothing.
+/// There is a run of words beside a tree, from the opening of both on. A node is made, a caller runs on it,
+/// the node is marked, drained and taken out, and the next node is made in its slot. After each of these
+/// steps the tree's lock is free, and its value is whole: the history has made the tree, the claims and the
+/// stored commands. So each premise of the clauses of `running_tree` is met at one of these moments, except
+/// that of a hidden file, which `words_life` meets. The function does nothing.
 pub fn tree_life()
     ensures lives { TreeLives }
 {}

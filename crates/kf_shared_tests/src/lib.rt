@@ -1,5 +1,5 @@
-//! The tests of `kf_words` and of `kf_shared`, over their public calls: proved over these crates, and not
-//! with them.
+//! The tests of `kf_words` and of `kf_shared`, through their public functions. They are proved on top of
+//! these crates, and not as a part of them.
 #![tactic(auto)]
 
 mod laws;

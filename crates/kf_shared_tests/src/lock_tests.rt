@@ -1,4 +1,4 @@
-//! A caller that locks the tree and unlocks it, and makes no other call between, changes nothing.
+//! A caller that locks the tree and unlocks it, with no other call in between, changes nothing.
 ghost use Rattle.std.specs.Prelude.{◌≡◌};
 
 use crate::fixtures::{FILE, made};
@@ -8,10 +8,10 @@ use std::marker::Brand;
 use std::process::Abort;
 use std::sync::Wait;
 
-/// How often the tree is locked and unlocked.
+/// How many times the tree is locked and unlocked.
 const TIMES: u32 = 10;
 
-/// How many commands are stored, and whether each of the two nodes is active.
+/// How many commands are stored, and whether each of the two nodes is activated.
 fn seen<N: Naming>(
     editor: &Editor<'_, N>,
     dir: Key,
@@ -25,7 +25,7 @@ fn seen<N: Naming>(
     ))
 }
 
-/// A directory and its file are not active. They stay so, and no command is stored.
+/// A directory and its file are not activated. They stay so, and no further command is stored.
 fn changes_nothing<N: Naming, R: Abort + Wait>(rt: &R, new: NewTree) -> Result<(), Refusal>
     requires { new.master.table ≡ N.table }
 {

@@ -1,4 +1,5 @@
-//! Look-ups and holds of paths without the tree's lock: after each command, and beside an owner in threads.
+//! Look-ups and holds of paths without the tree's lock: after each command, and in threads beside one that
+//! changes the tree.
 
 use crate::fixtures::{FILE, add, enter, hold, removed};
 use kf_core::{Key, Node};
@@ -15,7 +16,7 @@ pub(crate) fn looker_of<N: Naming, R: Abort + Wait>(rt: &R, tree: &SharedTree<N>
     }
 }
 
-/// What makes holds of paths in the tree.
+/// Makes a holder of paths in the tree.
 pub(crate) fn holder_of<N: Naming, R: Abort + Wait>(
     rt: &R,
     alloc: Global,
@@ -29,7 +30,7 @@ pub(crate) fn holder_of<N: Naming, R: Abort + Wait>(
 
 // ---- after each command
 
-/// The path gives a hold of the live file, each time.
+/// Checks, three times, that the path gives a hold of the live file.
 fn holds<N: Naming, R: Abort>(rt: &R, by: &mut PathHolder<N>, path: &[u8], key: Key) {
     for _ in 0..3 {
         match by.try_hold(path) {
@@ -42,7 +43,7 @@ fn holds<N: Naming, R: Abort>(rt: &R, by: &mut PathHolder<N>, path: &[u8], key: 
     }
 }
 
-/// A caller that asks is sent to the lock, each time.
+/// Checks, three times, that the path gives no hold, so that its caller is sent to the lock.
 fn is_sent<N: Naming, R: Abort>(rt: &R, by: &mut PathHolder<N>, path: &[u8]) {
     for _ in 0..3 {
         if let Some(held) = by.try_hold(path) {
@@ -52,7 +53,7 @@ fn is_sent<N: Naming, R: Abort>(rt: &R, by: &mut PathHolder<N>, path: &[u8]) {
     }
 }
 
-/// Hides the file, looks, and shows it again.
+/// Hides the file, checks that its path gives no hold, and shows the file again.
 fn not_held_while_hidden<N: Naming, R: Abort + Wait>(
     rt: &R,
     tree: &SharedTree<N>,
@@ -71,7 +72,7 @@ fn not_held_while_hidden<N: Naming, R: Abort + Wait>(
     }
 }
 
-/// The directory is activated, and the file in it renamed.
+/// Activates the directory and the file in it.
 fn activated<N: Naming, R: Abort + Wait>(rt: &R, tree: &SharedTree<N>, dir: Key) {
     assert!(rt; tree.edit(rt).activate(dir).is_ok());
 }
@@ -80,7 +81,8 @@ fn renamed<N: Naming, R: Abort + Wait>(rt: &R, tree: &SharedTree<N>, file: Key, 
     assert!(rt; tree.edit(rt).rename(file, dir, b"g").is_ok());
 }
 
-/// A file is born, activated, moved, hidden, shown and removed; then the next one of its name is there.
+/// Creates, activates, moves, hides, shows and removes a file, and then creates the next one under its name.
+/// It looks for the file after each change.
 pub(crate) fn held_as_it_changes<N: Naming, R: Abort + Wait>(
     rt: &R,
     tree: &SharedTree<N>,
@@ -102,16 +104,16 @@ pub(crate) fn held_as_it_changes<N: Naming, R: Abort + Wait>(
     removed(rt, tree, b"/t", 2);
 }
 
-// ---- beside an owner who changes the tree
+// ---- beside a thread that changes the tree
 
-/// Files that come one after the other under one name: their tags go up to the last.
+/// The tag of the last of the files that come one after the other under one name.
 const LAST: u64 = 3_000;
 
 fn file_of(tag: u64) -> Node {
     Node::File { mode: 0o644, tag }
 }
 
-/// Makes a file of each tag and removes it, except for the last.
+/// Makes a file with each tag and removes it, except for the last one.
 pub(crate) fn change<N: Naming, R: Abort + Wait>(rt: &R, tree: &SharedTree<N>) {
     for tag in 1..LAST {
         let _key = add(rt, tree, b"/t/f", file_of(tag), true);
@@ -122,7 +124,7 @@ pub(crate) fn change<N: Naming, R: Abort + Wait>(rt: &R, tree: &SharedTree<N>) {
     let _key = add(rt, tree, b"/t/f", file_of(LAST), true);
 }
 
-/// The tag of a file, or none that there is.
+/// The tag of a file; 0, which no file has, if this is none of the files.
 fn tag_of(node: Node) -> u64 {
     match node {
         Node::File { mode: 0o644, tag } => tag,
@@ -130,7 +132,7 @@ fn tag_of(node: Node) -> u64 {
     }
 }
 
-/// The tag of the file that is found there, or held, if one is.
+/// The tag of the file that is found, or held, at the path, if there is one.
 fn tag_there<N: Naming>(looker: &mut Lookup, by: &mut PathHolder<N>, opens: bool) -> Option<u64> {
     if !opens {
         let sight = looker.look(b"/t/f")?;
@@ -142,7 +144,8 @@ fn tag_there<N: Naming>(looker: &mut Lookup, by: &mut PathHolder<N>, opens: bool
     Some(tag_of(node))
 }
 
-/// Looks, or opens, until it has the file of the last tag, and says whether none went back behind another.
+/// Looks up the path, or takes holds of it, until it gets the file with the last tag. Returns whether it
+/// gets there, with no file older than the one before.
 pub(crate) fn keep_looking<N: Naming>(
     looker: &mut Lookup,
     by: &mut PathHolder<N>,

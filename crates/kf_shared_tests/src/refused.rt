@@ -1,5 +1,5 @@
-//! Removals that a node below refuses, since it has as many holds as it may: nothing is stored, and all holds
-//! are given back.
+//! Removals that are refused since a node below already has the greatest number of holds. Nothing is stored,
+//! and all holds are released.
 ghost use Rattle.std.specs.Prelude.{◌≡◌};
 
 use crate::fixtures::{FILE, add, commands, enter, hold, removed};
@@ -9,7 +9,8 @@ use kf_words::Hold;
 use std::process::Abort;
 use std::sync::Wait;
 
-/// A removal of the node, and then one from within a call of it, are refused for a node below.
+/// Checks that a removal of the node, and then one from within a call of it, are refused because of a node
+/// below.
 fn not_removed<N: Naming, R: Abort + Wait>(rt: &R, tree: &SharedTree<N>, top: Hold) -> Hold
     requires { top.table ≡ N.table }
     ensures { result.table ≡ N.table }
@@ -35,14 +36,14 @@ fn not_removed<N: Naming, R: Abort + Wait>(rt: &R, tree: &SharedTree<N>, top: Ho
     call.leave()
 }
 
-/// Two holds of the node, which are all that it may have, are made and given back.
+/// Makes two holds of the node, which are all that it may have, and releases them.
 fn has_room_for_two<N: Naming, R: Abort + Wait>(rt: &R, tree: &SharedTree<N>, key: Key) {
     let one = hold(rt, tree, key);
     hold(rt, tree, key).release();
     one.release();
 }
 
-/// In a tree whose slots may have two holds each.
+/// Runs this test in a tree whose slots may have two holds each.
 pub(crate) fn refused_below<N: Naming, R: Abort + Wait>(rt: &R, tree: &SharedTree<N>) {
     let top = add(rt, tree, b"/t", Node::Dir, true);
     let first = add(rt, tree, b"/t/a", FILE, true);

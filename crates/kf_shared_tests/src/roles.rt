@@ -22,13 +22,13 @@ use std::time::Clock;
 /// What the threads of a test count.
 #[derive(Drop)]
 pub(crate) struct Counts {
-    /// Those who begin.
+    /// Threads that have begun.
     pub(crate) begun: AtomicU64,
     /// Removals, finishes and hidings that returned.
     pub(crate) answered: AtomicU64,
     /// Self-removals that were the first of their node, and hidings that were accepted.
     pub(crate) first: AtomicU64,
-    /// Those who found all as it had to be.
+    /// Threads that found everything as it must be.
     pub(crate) good: AtomicU64,
 }
 
@@ -75,7 +75,7 @@ pub(crate) fn call_of<N: Naming, R: Abort + Wait>(
     }
 }
 
-/// What one thread does, with what it has for it.
+/// What one thread does, and what it needs for that.
 pub(crate) enum Role<N: Naming> {
     Remove(Held<N>),
     RemoveItself(Inside<N>),
@@ -101,7 +101,7 @@ fn some_released(receipts: Vec<Parted>) -> bool {
     some
 }
 
-/// There are receipts.
+/// Removes the node. Returns whether there were receipts.
 fn remove<N: Naming, R: Wait>(
     rt: &R,
     tree: &SharedTree<N>,
@@ -142,7 +142,7 @@ fn remove_itself<N: Naming, R: Wait>(
     }
 }
 
-/// Hides, and shows once another has returned too.
+/// Hides the file, and shows it once the other thread has returned too.
 fn hide_once<N: Naming, R: Wait>(
     rt: &R,
     tree: &SharedTree<N>,
@@ -166,7 +166,7 @@ fn hide_once<N: Naming, R: Wait>(
     }
 }
 
-/// Whether the thread found all as it had to be.
+/// Plays the role. Returns whether the thread found everything as it must be.
 pub(crate) fn act<N: Naming, R: Abort + Wait + Clock>(
     rt: &R,
     tree: &SharedTree<N>,
@@ -207,7 +207,7 @@ pub(crate) fn act<N: Naming, R: Abort + Wait + Clock>(
     }
 }
 
-/// The role in its place, acted. It counts itself if it found all as it had to be.
+/// Takes the role from its place and plays it. The thread counts itself if it found everything as it must be.
 pub(crate) fn act_in<N: Naming, R: Abort + Wait + Clock>(
     rt: &R,
     tree: &SharedTree<N>,

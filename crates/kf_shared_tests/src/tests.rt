@@ -23,28 +23,29 @@ use std::time::Clock;
 /// The threads of a test, over a tree that is made for them.
 #[derive(Clone, Copy)]
 enum Course {
-    /// Four who remove, by themselves or not, one who calls, one who creates, and two who hide.
+    /// Four threads that remove (if true, by self-removals), one that calls, one that creates, and two that
+    /// hide.
     Crowd(bool),
-    /// Two who remove one file from within their calls of it.
+    /// Two that remove one file from within their calls of it.
     TwoSelves,
-    /// One who removes a file, and one in a call of it.
+    /// One that removes a file, and one in a call of it.
     UnderACall,
-    /// Two who hide one file.
+    /// Two that hide one file.
     TwoHide,
-    /// One who finishes a removal, and one whose call has its reference again.
+    /// One that finishes a removal, and one whose call has taken its reference again.
     Restored,
-    /// One who removes a file from within a call, and one who looks at it under the lock.
+    /// One that removes a file from within a call, and one that looks at it under the lock.
     UnderTheLock,
-    /// Two who read.
+    /// Two that read.
     Readers,
-    /// One who removes many nodes, one in a call of the first, and one who looks on.
+    /// One that removes many nodes, one in a call of the first, and one that watches.
     ManyNodes,
-    /// One who removes a directory, one in a call of its first file, and one in a call of a later file, which
-    /// ends once the first file is gone.
+    /// One that removes a directory, one in a call of its first file, and one in a call of a later file,
+    /// which ends once the first file is gone.
     LaterCall,
-    /// Two who look up and one who opens without the lock, and one who changes the tree.
+    /// Two that look up and one that takes holds without the lock, and one that changes the tree.
     Lookers,
-    /// One who opens without the lock, after each change.
+    /// One that takes holds without the lock, after each change.
     EachChange,
 }
 
@@ -77,7 +78,7 @@ fn add_remover<N: Naming, R: Abort + Wait + Clock>(
     add_role(rt, tree, roles, role);
 }
 
-/// Directories, and a file in the last but one.
+/// Adds four directories, a file in the third, and the roles of a crowd.
 fn add_crowd<N: Naming, R: Abort + Wait + Clock>(
     rt: &R,
     tree: &SharedTree<N>,
@@ -98,14 +99,14 @@ fn add_crowd<N: Naming, R: Abort + Wait + Clock>(
     add_role(rt, tree, roles, Role::HideOn(x));
 }
 
-/// A call that broke its protection.
+/// Makes a call that broke its protection.
 fn broken_call<N: Naming, R: Abort + Wait>(rt: &R, tree: &SharedTree<N>, key: Key) -> Call {
     let Inside { mut call, name: _ } = call_of(rt, tree, key);
     call.break_protection();
     call
 }
 
-/// The hold of a file that is marked.
+/// Marks a file, and returns a hold of it.
 fn doomed<N: Naming, R: Abort + Wait>(rt: &R, tree: &SharedTree<N>, key: Key) -> Hold
     ensures { result.table ≡ N.table }
 {
@@ -127,7 +128,7 @@ fn doomed<N: Naming, R: Abort + Wait>(rt: &R, tree: &SharedTree<N>, key: Key) ->
     }
 }
 
-/// Those who are there for one file.
+/// Adds the two roles for one file.
 fn add_two<N: Naming, R: Abort + Wait + Clock>(
     rt: &R,
     tree: &SharedTree<N>,
@@ -162,7 +163,7 @@ fn add_two<N: Naming, R: Abort + Wait + Clock>(
     add_role(rt, tree, roles, other);
 }
 
-/// One who looks up, or opens.
+/// Adds a thread that looks up, or takes holds.
 fn add_looker<N: Naming, R: Abort + Wait + Clock>(
     rt: &R,
     alloc: Global,
@@ -174,7 +175,7 @@ fn add_looker<N: Naming, R: Abort + Wait + Clock>(
     add_role(rt, tree, roles, role);
 }
 
-/// Those who are there for the removal of many nodes.
+/// Adds the roles for the removal of many nodes.
 fn add_many<N: Naming, R: Abort + Wait + Clock>(
     rt: &R,
     alloc: Global,
@@ -195,7 +196,7 @@ fn add_many<N: Naming, R: Abort + Wait + Clock>(
     add_role(rt, tree, roles, Role::WatchTurns(keys));
 }
 
-/// Those who are there for a directory of three files.
+/// Adds the roles for a directory of three files.
 fn add_later<N: Naming, R: Abort + Wait + Clock>(
     rt: &R,
     tree: &SharedTree<N>,
@@ -256,7 +257,7 @@ fn counts() -> Counts {
     }
 }
 
-/// All act at once.
+/// Plays all roles at once.
 fn all_act<N: Naming + Send + Sync, R: Abort + Threads + Wait + Clock + Sync>(
     rt: &R,
     tree: &SharedTree<N>,
@@ -271,7 +272,7 @@ fn all_act<N: Naming + Send + Sync, R: Abort + Threads + Wait + Clock + Sync>(
     );
 }
 
-/// Each thread found all as it had to be.
+/// Checks that each thread found everything as it must be.
 fn all_good<N: Naming, R: Abort + Wait + Clock>(
     rt: &R,
     tree: &SharedTree<N>,
@@ -289,7 +290,7 @@ fn all_good<N: Naming, R: Abort + Wait + Clock>(
     roles.destroy_empty();
 }
 
-/// What is left is removed. The tree is bare then, its slots are free, and it has stored each command.
+/// Removes what is left. Then the tree is bare, its slots are free, and it has stored each command.
 fn leaves_nothing<N: Naming, R: Abort + Wait>(rt: &R, tree: &SharedTree<N>) {
     let root = tree.read(rt).state().root();
     if let Ok(receipts) = tree.edit(rt).remove_name(rt, root, b"t") {
@@ -300,7 +301,7 @@ fn leaves_nothing<N: Naming, R: Abort + Wait>(rt: &R, tree: &SharedTree<N>) {
     assert!(rt; commands(rt, tree) >= 31, "an edit alone changes nothing");
 }
 
-/// Runs one course. Returns how many were the first.
+/// Runs one course. Returns how many threads were the first.
 fn run<N: Naming + Send + Sync, R: Abort + Threads + Wait + Clock + Sync>(
     rt: &R,
     alloc: Global,
@@ -318,7 +319,7 @@ fn run<N: Naming + Send + Sync, R: Abort + Threads + Wait + Clock + Sync>(
     counts.first.load(Ordering::SeqCst)
 }
 
-/// Courses under the lock, how often each is run, and how many are the first then.
+/// Courses under the lock, how many times each is run, and how many threads must be the first.
 const COURSES: [(Course, u32, u64); 9] = [
     (Course::Crowd(false), 20, 0),
     (Course::Crowd(true), 20, 4),
@@ -331,7 +332,7 @@ const COURSES: [(Course, u32, u64); 9] = [
     (Course::LaterCall, 20, 0),
 ];
 
-/// Those who look up, or open, without the lock.
+/// Courses of threads that look up, or take holds, without the lock.
 const WITHOUT_THE_LOCK: [Course; 2] = [Course::EachChange, Course::Lookers];
 
 #[test]

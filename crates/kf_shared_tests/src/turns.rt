@@ -1,4 +1,5 @@
-//! Removals that have to wait: by turns of the lock, and for no node before the earlier ones are gone.
+//! Removals that have to wait. They work in turns of the lock, and wait for no node before the earlier ones
+//! are gone.
 
 use crate::crowd::letter;
 use crate::fixtures::{FILE, add, is_linked};
@@ -11,13 +12,13 @@ use std::alloc::Global;
 use std::process::Abort;
 use std::sync::Wait;
 
-/// Nodes of one removal: the directory, and the files in it.
+/// How many nodes one removal has: the directory and the files in it.
 pub(crate) const NODES: u32 = 1_000;
 
-/// How many of them leave the tree in one turn of the lock, once nobody uses any.
+/// How many of these leave the tree in one turn of the lock, if nobody uses any of them.
 const TURN: usize = 64;
 
-/// A file of the directory at `/t`. Each is before the next one in byte order.
+/// Adds a file to the directory at `/t`. A file with a lower number comes first in byte order.
 fn add_file<N: Naming, R: Abort + Wait>(
     rt: &R,
     tree: &SharedTree<N>,
@@ -31,7 +32,8 @@ fn add_file<N: Naming, R: Abort + Wait>(
     }
 }
 
-/// The keys of the directory's files and its own, as its removal takes them out of the tree.
+/// Adds the directory and its files. Returns their keys in the order in which a removal takes them out of the
+/// tree.
 pub(crate) fn add_files<N: Naming, R: Abort + Wait>(
     rt: &R,
     alloc: Global,
@@ -47,7 +49,7 @@ pub(crate) fn add_files<N: Naming, R: Abort + Wait>(
     keys
 }
 
-/// Whether of the nodes of each turn either none is linked or all are.
+/// Whether the first and the last node of each turn are both linked, or neither is.
 fn no_turn_is_half_done(state: &State, keys: &[Key]) -> bool {
     for turn in keys.chunks(TURN) {
         if let (Some(first), Some(last)) = (turn.first(), turn.last()) {
@@ -59,7 +61,7 @@ fn no_turn_is_half_done(state: &State, keys: &[Key]) -> bool {
     true
 }
 
-/// Looks on until all the nodes are gone. Whenever it gets the lock, no turn is half done.
+/// Watches until all the nodes are gone. Returns true if no turn was ever half done when it had the lock.
 pub(crate) fn watch_turns<N: Naming, R: Wait>(rt: &R, tree: &SharedTree<N>, keys: &[Key]) -> bool {
     for _ in 0..LOOKS {
         let reader = tree.read(rt);
@@ -75,7 +77,7 @@ pub(crate) fn watch_turns<N: Naming, R: Wait>(rt: &R, tree: &SharedTree<N>, keys
     false
 }
 
-/// Leaves once the earlier node has left the tree: true if it ever does.
+/// Ends the call once the earlier node has left the tree. Returns true if that node ever leaves.
 pub(crate) fn leave_after<N: Naming, R: Wait>(
     rt: &R,
     tree: &SharedTree<N>,

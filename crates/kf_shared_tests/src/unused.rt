@@ -1,4 +1,4 @@
-//! A removal takes the first of its nodes, which nobody uses, out of the tree before it unlocks.
+//! Before it unlocks, a removal takes the first of its nodes out of the tree, as long as nobody uses them.
 ghost use Rattle.std.specs.Prelude.{◌≡◌};
 
 use crate::fixtures::{FILE, add, enter, hold, is_bare, is_linked};
@@ -8,12 +8,13 @@ use std::alloc::Global;
 use std::process::Abort;
 use std::sync::Wait;
 
-/// Files of one directory, more than a removal unlinks at once, and the first of them that then stays.
+/// How many files the directory has: more than a removal unlinks at once. `STAYS` is the first one that then
+/// stays.
 pub(crate) const FILES: u8 = 70;
 
 const STAYS: u8 = 64;
 
-/// A tree of this many slots.
+/// Makes a tree of this many slots.
 pub(crate) fn made_wide<R: Abort>(rt: &R, alloc: Global, slots: u32) -> NewTree {
     let Some(limits) = Limits::new(slots, 2) else {
         panic!(rt; "no such limits")
@@ -24,7 +25,7 @@ pub(crate) fn made_wide<R: Abort>(rt: &R, alloc: Global, slots: u32) -> NewTree 
     }
 }
 
-/// The removal of a node is begun, and the tree unlocked.
+/// Begins the removal of a node, and unlocks the tree.
 fn begun<'a, N: Naming, R: Abort + Wait>(
     rt: &R,
     tree: &'a SharedTree<N>,
@@ -37,14 +38,14 @@ fn begun<'a, N: Naming, R: Abort + Wait>(
     }
 }
 
-/// Waits for what was in use, and looks whether so many nodes were removed.
+/// Waits for the nodes that are left, and checks that this many nodes were removed.
 fn ended<N: Naming, R: Abort + Wait>(rt: &R, draining: Draining<'_, N>, count: usize) {
     let receipts = draining.finish(rt);
     assert!(rt; receipts.len() == count);
     release_all(receipts);
 }
 
-/// The second of three files is in use: the first has left, and the others stay until the caller has left.
+/// If the second of three files is in use, the first has left, and the others stay until the caller has left.
 fn up_to_the_first_in_use<N: Naming, R: Abort + Wait>(rt: &R, tree: &SharedTree<N>) {
     let top = add(rt, tree, b"/t", Node::Dir, true);
     let first = add(rt, tree, b"/t/a", FILE, true);
@@ -59,7 +60,7 @@ fn up_to_the_first_in_use<N: Naming, R: Abort + Wait>(rt: &R, tree: &SharedTree<
     assert!(rt; gone && stay && is_bare(rt, tree));
 }
 
-/// Nobody uses any of the files: 64 have left at once.
+/// If nobody uses any of the files, 64 have left at once.
 fn at_most_64<N: Naming, R: Abort + Wait>(rt: &R, tree: &SharedTree<N>) {
     let top = add(rt, tree, b"/t", Node::Dir, true);
     let (mut last, mut next) = (top, top);
@@ -79,7 +80,7 @@ fn at_most_64<N: Naming, R: Abort + Wait>(rt: &R, tree: &SharedTree<N>) {
     assert!(rt; gone && stay && is_bare(rt, tree));
 }
 
-/// Nobody uses the file: it has left.
+/// If nobody uses the file, it has left at once.
 fn all_of_one<N: Naming, R: Abort + Wait>(rt: &R, tree: &SharedTree<N>) {
     let file = add(rt, tree, b"/t", FILE, true);
     let draining = begun(rt, tree, file);
@@ -88,7 +89,7 @@ fn all_of_one<N: Naming, R: Abort + Wait>(rt: &R, tree: &SharedTree<N>) {
     assert!(rt; gone && is_bare(rt, tree));
 }
 
-/// In a tree that is wide enough.
+/// Runs these tests in a tree that has enough slots.
 pub(crate) fn unused_nodes<N: Naming, R: Abort + Wait>(rt: &R, new: NewTree)
     requires { new.master.table ≡ N.table }
 {

@@ -1,4 +1,4 @@
-//! Waits of threads that end: for what other threads count, and for calls.
+//! Waits of threads, each with an end: for what other threads count, and for calls.
 ghost use Rattle.std.specs.Prelude.{◌≡◌};
 
 use crate::fixtures::is_linked;
@@ -23,7 +23,7 @@ pub(crate) fn wait_for(count: u64, counter: &AtomicU64) -> bool {
     false
 }
 
-/// Whether nobody has counted itself in this many looks.
+/// Whether a counter stays zero for this many looks.
 fn stays_zero(looks: u64, counter: &AtomicU64) -> bool {
     for _ in 0..looks {
         if counter.load(Ordering::SeqCst) != 0 {
@@ -45,7 +45,8 @@ fn wait_for_mark<N: Naming, R: Wait>(rt: &R, tree: &SharedTree<N>, key: Key) -> 
     false
 }
 
-/// Ends the call that a removal waits for. True if the removal did not return before, and did after.
+/// Ends the call that a removal waits for. Returns true if the removal did not return before that, and did
+/// return after it.
 pub(crate) fn end_call<N: Naming, R: Wait>(
     rt: &R,
     tree: &SharedTree<N>,
@@ -60,7 +61,7 @@ pub(crate) fn end_call<N: Naming, R: Wait>(
     marked && waits && wait_for(1, &counts.answered)
 }
 
-// ---- a finish, beside a call that has its reference again
+// ---- a finish beside a call that has taken its reference again
 
 fn leave(mut call: Call) {
     match call.phase() {
@@ -74,8 +75,8 @@ fn leave(mut call: Call) {
     }
 }
 
-/// Lets the finish begin while the lock is held, and restores the call before the unlock: the finish
-/// has seen the node drained by then, and its unlink finds the node in use.
+/// Lets the finish begin while the lock is held, and restores the call before the unlock. By then the finish
+/// has seen the node drained, so its unlink finds the node in use.
 fn restored_under_the_lock<N: Naming, R: Wait + Clock>(
     rt: &R,
     tree: &SharedTree<N>,
@@ -91,7 +92,7 @@ fn restored_under_the_lock<N: Naming, R: Wait + Clock>(
     call
 }
 
-/// Restores the call under the lock, looks whether the finish returns, and ends the call.
+/// Restores the call under the lock, checks that the finish does not return, and ends the call.
 pub(crate) fn restore_and_end<N: Naming, R: Wait + Clock>(
     rt: &R,
     tree: &SharedTree<N>,
@@ -108,7 +109,7 @@ pub(crate) fn restore_and_end<N: Naming, R: Wait + Clock>(
     waits && still && linked && wait_for(1, &counts.answered)
 }
 
-/// Takes the node out, once the other has begun.
+/// Takes the node out of the tree, once the other thread has begun.
 pub(crate) fn finish<N: Naming, R: Wait>(
     rt: &R,
     tree: &SharedTree<N>,
@@ -123,9 +124,9 @@ pub(crate) fn finish<N: Naming, R: Wait>(
     begun
 }
 
-// ---- two who read at once, and one who looks under the lock
+// ---- two threads that read at once, and one that looks under the lock
 
-/// Waits, with the tree in its hands to read, until two have it.
+/// Locks the tree for reading, and waits until two threads have done so.
 pub(crate) fn meet_reading<N: Naming, R: Wait>(
     rt: &R,
     tree: &SharedTree<N>,
@@ -136,7 +137,7 @@ pub(crate) fn meet_reading<N: Naming, R: Wait>(
     wait_for(2, &counts.begun)
 }
 
-/// Whether nobody uses the node of a hold, which it gives back.
+/// Whether nobody uses the node of a hold. Releases the hold.
 fn is_unused(hold: Hold) -> bool {
     match hold.look() {
         Ok(drained) => {
@@ -150,9 +151,9 @@ fn is_unused(hold: Hold) -> bool {
     }
 }
 
-/// Has the lock as often as it can until the node is gone, and looks then whether the call of its
-/// self-removal has its reference, twice under one lock. True if the call does not get it back in between.
-/// (It may leave in between: that takes no lock.)
+/// Takes the lock again and again until the node is gone. Then, under one lock, it looks twice whether the
+/// call of the self-removal has its reference. Returns true if the call does not get its reference back in
+/// between. (It may leave in between, since that takes no lock.)
 pub(crate) fn same_under_the_lock<N: Naming, R: Wait + Clock>(
     rt: &R,
     tree: &SharedTree<N>,

@@ -1,4 +1,4 @@
--- A change of the record in one slot.
+-- A change to the record in one slot.
 use Rattle.std.proofs.Common.{◌≡◌, ◌≢◌, ◌↔◌, IsTrue, false, true, ltb, ℕ, zero, suc, ◌<◌, ◌≤◌, refl, ap, arith, sym, ◌∙◌, List, [], ◌∷◌, length}
 use Rattle.std.specs.Prelude.{Option, None, Some, slice_get, slice_set}
 use Rattle.std.specs.Option.{option_map, option_and_then}
@@ -36,11 +36,11 @@ module _ (f : Record → Record) where
           short : length t ≤ j → length (with_changed_slot f t j) ≤ j
           short h = (let e = length_set t j (option_and_then (λ place. option_map f place) (slice_get t j)) in omega arith)
 
--- the record that was taken out of a slot
+-- the record in a slot, if there is one
 abbrev pub record_in : Tree → ℕ → Option Record
 record_in t slot = option_and_then (λ entry. entry) (slice_get t slot)
 
--- it is put back changed
+-- a record is taken out of its slot and put back changed
 pub put_back_changed : (f : Record → Record) (t : Tree) (slot : ℕ) (r : Record) → Some r ≡ record_in t slot → slice_set (slice_set t slot None) slot (Some (f r)) ≡ with_changed_slot f t slot
 put_back_changed f t slot r is = set-set t slot None (Some (f r)) ∙ ap (slice_set t slot) (go (slice_get t slot) is)
   where

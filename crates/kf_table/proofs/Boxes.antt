@@ -1,4 +1,4 @@
--- What the boxes of directories hold, slot by slot, and what a change of one box makes of it.
+-- Which directory is in the box of each slot, and what a change to one box does to these directories.
 use Rattle.std.proofs.Common.{◌≡◌, ◌≢◌, ◌↔◌, IsTrue, nat_eq, inl, inr, ℕ, zero, suc, ◌+◌, ◌-◌, ◌<◌, ◌^◌, refl, ap, arith, sym, ◌∙◌, Bool, true, false, cond, List, [], ◌∷◌, map, get_or, replicate, slice_set, subst}
 use Rattle.std.specs.Prelude.{Option, None, Some, Result, Ok, Err, OnErr, slice_get}
 use Rattle.std.specs.Option.{option_and_then}
@@ -29,21 +29,21 @@ subdirs_told [] slot = refl
 subdirs_told (d ∷ ds) zero = refl
 subdirs_told (d ∷ ds) (suc slot) = subdirs_told ds slot
 
--- a box is put back with this directory in it
+-- a box is taken out of its slot and put back with this directory in it
 pub put_back : (boxes opened after : List (Option (Box Directory))) (slot : ℕ) (kept : Box Directory) (d : Directory)
     → opened ≡ slice_set boxes slot None → after ≡ slice_set opened slot (Some kept) → kept.value ≡ d → map directory_in after ≡ slice_set (map directory_in boxes) slot d
 put_back boxes opened after slot kept d taken put is =
     ap (map directory_in) (put ∙ ap (λ (bs : List (Option (Box Directory))). slice_set bs slot (Some kept)) taken ∙ set-set boxes slot None (Some kept))
     ∙ map-set directory_in boxes slot (Some kept) ∙ ap (λ x. slice_set (map directory_in boxes) slot x) is
 
--- and as it was
+-- a box is taken out of its slot and put back as it was
 pub put_back_same : (boxes opened after : List (Option (Box Directory))) (slot : ℕ) (kept : Box Directory)
     → opened ≡ slice_set boxes slot None → after ≡ slice_set opened slot (Some kept) → kept.value ≡ directory_in (box_in boxes slot) → map directory_in after ≡ map directory_in boxes
 put_back_same boxes opened after slot kept taken put is =
     put_back boxes opened after slot kept (get_or (map directory_in boxes) slot empty_directory) taken put (is ∙ sym (directory_read boxes slot))
     ∙ set-get_or (map directory_in boxes) slot empty_directory
 
--- the box of a directory without children goes
+-- removing the box of a directory without children changes no directory
 pub taken_away : (boxes : List (Option (Box Directory))) (slot : ℕ) → directory_in (box_in boxes slot) ≡ empty_directory
     → map directory_in (slice_set boxes slot None) ≡ map directory_in boxes
 taken_away [] slot is = refl
@@ -60,7 +60,7 @@ nothing_less name = empty_of_len _ (len-remove nat_list_cmp_total empty name ∙
     none true n is = omega (arith, is)
     none false n is = is
 
--- whether a directory is without children
+-- a directory without names is the empty directory if and only if it counts no subdirectories
 pub childless : (d : Directory) → len d.index ≡ 0 → IsTrue (nat_eq d.subdirs 0) ↔ (d ≡ empty_directory)
 childless d few = (
   (λ h. elim (eqb_tells d.subdirs 0) [
@@ -79,7 +79,7 @@ with_children d n is some = (
   (λ e. absurd (some (is ∙ ap (λ (x : Directory). len x.index) e ∙ len-empty (slice_cmp nat_cmp) Key))),
 )
 
--- a name leaves a directory without children as it is
+-- removing a name from a directory without children changes nothing
 left_as_is : (name : List ℕ) (is_subdir : Bool) (d : Directory) → d ≡ empty_directory → (is_subdir ≡ true → 0 < d.subdirs) → without_child name is_subdir d ≡ d
 left_as_is name true d is more = absurd (let m = more refl in let none = ap (λ (x : Directory). x.subdirs) is in omega (arith, m, none))
 left_as_is name false d is more = ap (without_child name false) is ∙ ap (λ (names : Names). record { index = names; subdirs = 0 }) (nothing_less name) ∙ sym is
@@ -93,7 +93,7 @@ removed_none boxes opened slot name is_subdir taken none counted =
     ap (map directory_in) taken ∙ taken_away boxes slot (ap directory_in none)
     ∙ sym (ap (λ x. slice_set (map directory_in boxes) slot x) same ∙ set-get_or (map directory_in boxes) slot empty_directory)
 
--- nothing stands above a bound in a directory without children
+-- no name is above a bound in a directory without children
 pub nothing_above : (d : Directory) (bound : Option (List ℕ)) → d ≡ empty_directory → AreAbove d.index bound []
 unfolding AreAbove
 nothing_above d bound is name above = ap (λ (x : Directory). get x.index name) is ∙ get-empty (slice_cmp nat_cmp) name
@@ -106,7 +106,7 @@ pub always_err : {T E P : Type 0} (r : Result T E) → P → OnErr r P
 always_err (Ok x) p = tt
 always_err (Err e) p = p
 
--- ---- what a name asks of the directory that it enters
+-- ---- what a name requires of the directory that it enters
 
 module _ (ds : List Directory) (slot : ℕ) (name : List ℕ) (room : HasRoomFor ds slot name) (d : Directory) (is : d ≡ get_or ds slot empty_directory) where
   pub room_few : d.subdirs + 1 < 2 ^ 64

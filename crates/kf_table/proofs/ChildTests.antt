@@ -1,4 +1,4 @@
--- Tests of a child, and of a list that has one which passes.
+-- Tests of a child, and of a list that has an item which passes.
 use Rattle.std.proofs.Common.{◌≡◌, ℕ, zero, suc, refl, ap, ◌∙◌, Bool, true, false, cond, List, [], ◌∷◌}
 use Rattle.std.specs.Prelude.{Option, None, Some, slice_get, ◌&&◌, ◌||◌}
 use Rattle.std.specs.List.{find as first, list_any}
@@ -19,7 +19,7 @@ key_is dir (Some p) h = ap Some (same_key_is p dir h)
 pub is_key_self : (dir : Key) (parent : Option Key) → parent ≡ Some dir → is_key dir parent ≡ true
 is_key_self dir parent e = ap (is_key dir) e ∙ same_key_self dir
 
--- a list has a first item that passes, if it has one
+-- if some item of a list passes, some item is the first to pass
 pub some_first : {X : Type 0} (p : X → Bool) (xs : List X) (i : ℕ) (x : X) → slice_get xs i ≡ Some x → p x ≡ true → (y : X) × (first p xs ≡ Some y) × (p y ≡ true)
 some_first p [] i x h e = absurd (none-some x h)
 some_first p (y ∷ xs) zero x h e = (let is : p y ≡ true = ap p (same_Some y x h) ∙ e in (y, ap (λ b. cond b (Some y) (first p xs)) is, is))

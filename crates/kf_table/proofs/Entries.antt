@@ -1,4 +1,4 @@
--- What a child's coming and going does to the indexes, by slot and name.
+-- What adding or removing a child does to the indexes, by slot and name.
 use Rattle.std.proofs.Common.{◌≡◌, ◌≢◌, ◌⊎◌, inl, inr, ℕ, ◌+◌, ◌-◌, ◌<◌, refl, ap, sym, ◌∙◌, Bool, true, false, cond, List, length, slice_set, get_or}
 use Rattle.std.specs.Prelude.{None, Some, slice_get}
 use Rattle.std.specs.Option.{option_and_then, option_map_or}
@@ -18,14 +18,14 @@ use Rattle.kf_core.proofs.Lists.{slice_get-set_same, slice_get-set_other}
 abbrev pub is_same : List ℕ → List ℕ → Bool
 is_same = eq_by_cmp (slice_cmp nat_cmp)
 
--- two names are the same, or not
+-- two names are either the same or not
 pub names_tell : (a b : List ℕ) → ((is_same a b ≡ true) × (a ≡ b)) ⊎ ((is_same a b ≡ false) × (a ≢ b))
 names_tell a b = elim (is_same a b) as (λ v. is_same a b ≡ v → ((v ≡ true) × (a ≡ b)) ⊎ ((v ≡ false) × (a ≢ b))) [
   | true ↦ λ e. inl (refl, (bytes_eq-Decides a b).0 (sym (is_eq-slice_cmp a b) ∙ e))
   | false ↦ λ e. inr (refl, λ same. let x : false ≡ true = sym e ∙ is_eq-slice_cmp a b ∙ (bytes_eq-Decides a b).1 same in cc)
 ] refl
 
--- this slot and this name, or not
+-- a slot and a name are either both these or not
 pub entries_tell : (slot at : ℕ) (q name : List ℕ) → ((slot ≡ at) × (q ≡ name)) ⊎ (¬ ((slot ≡ at) × (q ≡ name)))
 entries_tell slot at q name = elim (eqb_tells slot at) [
   | inl s ↦ elim (names_tell q name) [ inl n ↦ inl (s.1, n.1) | inr n ↦ inr (λ both. n.1 both.1) ]
@@ -107,7 +107,7 @@ module _ (ds : List Directory) (at : ℕ) (within : at < length ds) where
     pub left_counted : subdirs_at left at ≡ cond is_subdir (subdirs_at ds at - 1) (subdirs_at ds at)
     left_counted = subdirs_written (without_child name is_subdir here) ∙ ap (λ n. cond is_subdir (n - 1) n) (sym subdirs_here)
 
--- what is read of a slot
+-- what is read from the directory of a slot is what the indexes have for the slot
 pub entry_read : (ds : List Directory) (slot : ℕ) (d : Directory) (q : List ℕ) → slot < length ds → d ≡ get_or ds slot empty_directory → entry_at ds slot q ≡ get d.index q
 entry_read ds slot d q within is = ap (λ o. option_and_then (λ (d : Directory). get d.index q) o) (slice_get-get_or ds slot empty_directory within ∙ ap Some (sym is))
 

@@ -1,4 +1,4 @@
--- A directory has at most as many names as there are slots, for no two of its names lead to one slot.
+-- A directory has at most as many names as there are slots, since no two of its names lead to the same slot.
 use Rattle.std.proofs.Common.{◌≡◌, ◌≢◌, inl, inr, ℕ, ◌<◌, ◌≤◌, ◌^◌, refl, ap, arith, sym, ◌∙◌, subst, Bool, true, false, List, [], ◌∷◌, length, map}
 use Rattle.std.specs.Prelude.{T, None, Some, slice_get, ◌&&◌, ◌==◌}
 use Rattle.std.specs.Option.{option_and_then, option_map_or}
@@ -64,7 +64,7 @@ find_later e es low name key found = elim (names_tell name e.0) [
 
 -- ---- if each pair is an entry of one directory
 
--- entries that lead to one slot have one name
+-- entries that lead to the same slot have the same name
 one_name : (t : Tree) (slot : ℕ) (a b : List ℕ) (k l : Key) → IsEntry t slot a k → IsEntry t slot b l → k.slot ≡ l.slot → a ≡ b
 one_name t slot a b k l i j same =
     let slots : i.child.key.slot ≡ j.child.key.slot = ap (λ (x : Key). x.slot) i.has_key ∙ same ∙ ap (λ (x : Key). x.slot) (sym j.has_key) in
@@ -118,7 +118,7 @@ module _ (t : Tree) (slot : ℕ) where
       let few = length-le_from_distinct_below (slots es) (length t) (slots_apart es rises all) (slots_low es rises all) in
       rw length-map at few
 
--- ---- in an index that is kept
+-- ---- in an index that is kept right
 
 as_many_slots : (t : Tree) (ds : List Directory) (slot : ℕ) → AreKept t ds → names_at ds slot ≤ length t
 as_many_slots t ds slot kept = elim (slice_get ds slot) as (λ o. slice_get ds slot ≡ o → option_map_or (λ (d : Directory). len d.index) o 0 ≤ length t) [

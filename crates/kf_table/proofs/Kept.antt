@@ -1,4 +1,4 @@
--- The indexes stay right when a record comes, goes or moves.
+-- The indexes stay right when a record is added, removed or moved.
 use Rattle.std.proofs.Common.{◌≡◌, ◌≢◌, ◌⊎◌, inl, inr, ℕ, ◌+◌, ◌-◌, ◌<◌, refl, ap, arith, sym, ◌∙◌, Bool, true, false, cond, List, length, slice_set, length-set, get_or}
 use Rattle.std.specs.Prelude.{Option, None, Some, slice_get, count_by, ◌&&◌}
 use Rattle.std.specs.Option.{option_and_then}
@@ -19,7 +19,7 @@ use Rattle.kf_table.proofs.Entries.{entries_tell, entered_there, entered_elsewhe
 abbrev pub counted : Bool → ℕ
 counted b = cond b 1 0
 
--- what a write of one slot makes of the number of slots that pass a test
+-- what a write of one slot does to the number of slots that pass a test
 pub count_written : (test : Option Record → Bool) (t : Tree) (at : ℕ) (old new : Option Record) → slice_get t at ≡ Some old →
     count_by test (slice_set t at new) + counted (test old) ≡ count_by test t + counted (test new)
 count_written test t at old new h =
@@ -41,7 +41,7 @@ not_in_parent slot r p parent apart = elim (eqb_tells p.slot slot) [
 pub in_none : (slot : ℕ) (r : Record) → r.parent ≡ None → is_subdir_in slot (Some r) ≡ false
 in_none slot r parent = ap (λ o. is_slot_of slot o && is_dir r.node) parent
 
--- ---- a record comes
+-- ---- a record is added
 
 module _ (t : Tree) (ds : List Directory) (kept : AreKept t ds) (r : Record) (vacant : slice_get t r.key.slot ≡ Some None) where
   abbrev grown : Tree
@@ -73,7 +73,7 @@ module _ (t : Tree) (ds : List Directory) (kept : AreKept t ds) (r : Record) (va
     named = i.named;
   }
 
-  -- into a directory that has no child of that name
+  -- the record is added to a directory that has no child of that name
   module _ (p : Key) (parent : r.parent ≡ Some p) (within : p.slot < length ds) (absent : entry_at ds p.slot r.name ≡ None) where
     abbrev entered : List Directory
     entered = with_entry p.slot r.name r.key (is_dir r.node) ds
@@ -148,7 +148,7 @@ module _ (t : Tree) (ds : List Directory) (kept : AreKept t ds) (r : Record) (va
       counted = λ slot low. count_grown slot (rw (length-set t r.key.slot (Some r)) at low);
     }
 
--- ---- a record goes
+-- ---- a record is removed
 
 module _ (t : Tree) (ds : List Directory) (kept : AreKept t ds) (r : Record) (is_in : IsIn t r) where
   abbrev cleared : Tree
@@ -166,7 +166,7 @@ module _ (t : Tree) (ds : List Directory) (kept : AreKept t ds) (r : Record) (is
   gone : (c : Record) → IsIn cleared c → c.key ≢ r.key
   gone c is e = none-some c (same_Some None (Some c) (sym none_there ∙ ap (λ (k : Key). slice_get cleared k.slot) (sym e) ∙ is))
 
-  -- another record is there still
+  -- every other record is still there
   still : (c : Record) → IsIn t c → c ≢ r → IsIn cleared c
   still c is differ = elim (eqb_tells c.key.slot r.key.slot) [
     | inl e ↦ absurd (differ (same_Some c r (same_Some (Some c) (Some r) (sym is ∙ ap (slice_get t) e.1 ∙ is_in))))

@@ -1,4 +1,4 @@
--- The indexes are right for only the root, and stay right when marks change.
+-- The indexes are right if there is only the root, and they stay right when marks change.
 use Rattle.std.proofs.Common.{◌≡◌, inl, inr, ℕ, zero, suc, ◌+◌, ◌<◌, ◌^◌, refl, ap, arith, sym, ◌∙◌, subst, Bool, true, false, cond, List, [], ◌∷◌, slice_set, length-set, replicate}
 use Rattle.std.specs.Prelude.{Option, None, Some, slice_get, count_by, fold, ◌&&◌}
 use Rattle.std.specs.Option.{option_map, option_and_then}
@@ -19,7 +19,7 @@ use Rattle.kf_table.specs.Directories.{empty_directory, entry_at, subdirs_at, is
 use Rattle.kf_core.proofs.Lists.{slice_get-set_same, slice_get-set_other}
 use Rattle.kf_table.proofs.Kept.{counted, count_written}
 
--- the two say the same of where they are
+-- the two records have the same key, parent, name and node
 pub record SamePlace (r s : Record) : Type 0 where
   pub key : r.key ≡ s.key
   pub parent : r.parent ≡ s.parent
@@ -98,7 +98,7 @@ module _ (f : Record → Record) (same : (r : Record) → SamePlace (f r) r) (t 
           was ∙ omega (arith, w, one);
     }
 
-  -- a change that leaves each record where it is
+  -- the indexes stay right after a change that leaves each record in its place
   pub kept_changed : AreKept (with_changed_slot f t slot) ds
   kept_changed = elim (slice_get t slot) as (λ o. slice_get t slot ≡ o → AreKept (slice_set t slot (option_and_then (option_map f) o)) ds) [
     | None ↦ λ e. subst (λ (x : Tree). AreKept x ds) (sym (set_past t slot None e)) kept
@@ -119,7 +119,7 @@ activated_stays r = elim r.marks.doomed as (λ b. SamePlace (cond b r (activated
 
 -- ---- only the root
 
--- this many slots without a record
+-- this many slots, none of which has a record
 abbrev nobody : ℕ → Tree
 nobody n = replicate n None
 

@@ -1,4 +1,4 @@
--- What a move asks of the indexes, and what it makes of them.
+-- What a move requires of the indexes, and what it does to them.
 use Rattle.std.proofs.Common.{◌≡◌, inl, inr, ℕ, ◌+◌, refl, ap, arith, sym, ◌∙◌, subst, Bool, true, false, cond, List, length, slice_set, length-set, get_or}
 use Rattle.std.specs.Prelude.{Option, None, Some, is_some}
 use Rattle.std.specs.Option.{option_map_or}
@@ -23,7 +23,7 @@ use Rattle.kf_table.proofs.Rooms.{few_subdirs, move_is, move_low, move_named, mo
 use Rattle.kf_table.proofs.KeptRecords.{linked_seen}
 use Rattle.kf_table.proofs.Swapped.{kept_along, swap_length, swap_entries, swap_counts}
 
--- what a move asks of the tree
+-- what a move requires of the tree
 pub record IsLawfulMove (t : Tree) (key dir : Key) (name : List ℕ) : Type 0 where
   pub linked : is_some (record_at t key) ≡ true
   pub lawful : (root : Key) × Lawful t root
@@ -49,7 +49,7 @@ module _ (t : Tree) (ds : List Directory) (kept : AreKept t ds) (key dir : Key) 
     abbrev with_new : List Directory
     with_new = with_entry dir.slot name key (is_dir r.node) ds
 
-    -- the old name may still leave
+    -- the old name can still be removed
     pub may_leave_after : MayRemove with_new (Some r)
     may_leave_after p parent =
         let low = dir_within t ds kept r is_in p parent in (
@@ -81,7 +81,7 @@ module _ (t : Tree) (ds : List Directory) (kept : AreKept t ds) (key dir : Key) 
       | Some p ↦ length-set ds p.slot _
     ]
 
-    -- nothing of the new name is there if the old one is gone
+    -- once the old name is removed, there is no entry of the new name
     absent_still : entry_at without_old dir.slot name ≡ None
     absent_still = elim r.parent as (λ o. r.parent ≡ o → entry_at (without_entry o r.name (is_dir r.node) ds) dir.slot name ≡ None) [
       | None ↦ λ e. has_room.absent
@@ -117,7 +117,7 @@ module _ (t : Tree) (ds : List Directory) (kept : AreKept t ds) (key dir : Key) 
               (swap_counts ds dir.slot name key (is_dir r.node) p r.name low p_low differ counts)
         ] refl kept_after
 
-  -- as the code has it: what was seen in the record's slot
+  -- the same from what the code has seen in the record's slot
   pub may_move_out : (b : Bool) (entered : List Directory) (seen : Option Record) → b ≡ option_map_or (λ (r : Record). is_dir r.node) (record_at t key) false
       → entered ≡ with_entry dir.slot name key b ds → seen ≡ record_in t key.slot → MayRemove entered seen
   may_move_out b entered seen tells is read =

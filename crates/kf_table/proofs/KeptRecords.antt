@@ -1,4 +1,4 @@
--- The indexes stay right when a record comes or goes.
+-- The indexes stay right when a record is added or removed.
 use Rattle.std.proofs.Common.{◌≡◌, inl, inr, refl, ap, arith, sym, ◌∙◌, subst, true, List, slice_set, length-set}
 use Rattle.std.specs.Prelude.{Option, None, Some, slice_get, is_some}
 use Rattle.std.specs.Option.{option_and_then, option_map_or}
@@ -27,7 +27,7 @@ may_insert t ds kept r vacant after p parent =
       few_names = few_names t ds p.slot kept;
     }
 
--- an orphan has no entry
+-- a record without a parent has no entry, so the indexes stay right when it is added
 kept_orphan : (t : Tree) (ds : List Directory) → AreKept t ds → (r : Record) → slice_get t r.key.slot ≡ Some None → r.parent ≡ None → AreKept (slice_set t r.key.slot (Some r)) ds
 kept_orphan t ds kept r vacant orphan = record {
   as_many = kept.as_many ∙ sym (length-set t r.key.slot (Some r));
@@ -68,9 +68,9 @@ kept_added t ds kept r vacant may = elim r.parent as (λ o. r.parent ≡ o → A
   | Some p ↦ λ e. let room = may p e in kept_with t ds kept r vacant p e room.within room.absent
 ] refl
 
--- ---- a record goes
+-- ---- a record is removed
 
--- the record of a linked key, as it is seen in its slot
+-- the record of a linked key, as it was seen in the key's slot
 pub linked_seen : (t : Tree) (key : Key) (seen : Option Record) → is_some (record_at t key) ≡ true → seen ≡ record_in t key.slot
     → (r : Record) × IsIn t r × (r.key ≡ key) × (seen ≡ Some r)
 linked_seen t key seen linked is =

@@ -1,4 +1,4 @@
--- How many slots have a record, when one slot changes.
+-- How many slots have a record when one slot changes.
 use Rattle.std.proofs.Common.{◌≡◌, ℕ, zero, suc, ◌+◌, ◌<◌, refl, ap, arith, sym, ◌∙◌, Bool, true, false, [], ◌∷◌, length, replicate, cond, slice_set, get_or, Bor}
 use Rattle.std.specs.Prelude.{Option, None, Some, slice_get, count_by, is_some}
 use Rattle.std.specs.Option.{option_map, option_and_then, option_copied}
@@ -34,7 +34,7 @@ count_changed f t slot = go (slice_get t slot) refl
 pub still : (f : Record → Record) (t u : Tree) (slot n : ℕ) → n ≡ count_by is_some t → u ≡ with_changed_slot f t slot → n ≡ count_by is_some u
 still f t u slot n counted is = counted ∙ sym (ap (λ (v : Tree). count_by is_some v) is ∙ count_changed f t slot)
 
--- what a write of one slot makes of the number
+-- what a write of one slot does to the number of slots that have a record
 written : (t : Tree) (slot : ℕ) (new : Option Record) (had : Bool) → slot < length t → is_some (record_in t slot) ≡ had → count_by is_some (slice_set t slot new) + cond had 1 0 ≡ count_by is_some t + cond (is_some new) 1 0
 written t slot new had within is =
     (let entry : Option Record = get_or t slot None in
@@ -44,7 +44,7 @@ written t slot new had within is =
     let e : ◌≡◌ {A = ℕ} (cond (is_some entry) 1 0) (cond had 1 0) = ap (λ b. cond {A = ℕ} b 1 0) same in
     omega (arith, d, e))
 
--- what is read of a slot
+-- whether a slot has a record, from what was read of it
 seen : (t : Tree) (slot : ℕ) (had : Bool) (found : Option (Bor Record)) → option_copied found ≡ record_in t slot → is_some found ≡ had → is_some (record_in t slot) ≡ had
 seen t slot had found known is = ap is_some (sym known) ∙ same found ∙ is
   where
@@ -53,15 +53,15 @@ seen t slot had found known is = ap is_some (sym known) ∙ same found ∙ is
     same (Some b) = refl
 
 module _ (t : Tree) (slot : ℕ) (r : Record) (found : Option (Bor Record)) (within : slot < length t) (known : option_copied found ≡ record_in t slot) where
-  -- a record more
+  -- one more record
   pub one_more : is_some found ≡ false → count_by is_some (slice_set t slot (Some r)) ≡ count_by is_some t + 1
   one_more none = (let d = written t slot (Some r) false within (seen t slot false found known none) in omega (arith, d))
 
-  -- in place of one that was there
+  -- a record in place of one that was there
   pub as_many : is_some found ≡ true → count_by is_some (slice_set t slot (Some r)) ≡ count_by is_some t
   as_many some = (let d = written t slot (Some r) true within (seen t slot true found known some) in omega (arith, d))
 
-  -- if there was none, not every slot has one
+  -- if the slot had no record, not every slot has one
   pub not_all : is_some found ≡ false → count_by is_some t < length t
   not_all none =
       (let more = one_more none in
@@ -70,7 +70,7 @@ module _ (t : Tree) (slot : ℕ) (r : Record) (found : Option (Bor Record)) (wit
       omega (arith, more, most, same))
 
 module _ (t : Tree) (slot : ℕ) (taken : Option Record) (is : taken ≡ record_in t slot) where
-  -- a record less
+  -- one record fewer
   pub one_less : is_some taken ≡ true → count_by is_some (slice_set t slot None) + 1 ≡ count_by is_some t
   one_less some = go (slice_get t slot) refl (ap is_some (sym is) ∙ some)
     where
@@ -79,7 +79,7 @@ module _ (t : Tree) (slot : ℕ) (taken : Option Record) (is : taken ≡ record_
       go (Some None) h e = absurd (let no : false ≡ true = e in cc)
       go (Some (Some r)) h e = (let d = count_written is_some t slot (Some r) None h in omega (arith, d))
 
-  -- there was none
+  -- if the slot had no record, the number stays the same
   pub none_less : is_some taken ≡ false → count_by is_some (slice_set t slot None) ≡ count_by is_some t
   none_less none = go (slice_get t slot) refl (ap is_some (sym is) ∙ none)
     where

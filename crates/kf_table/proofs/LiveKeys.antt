@@ -1,4 +1,4 @@
--- The keys of live records, slot by slot, when the record of one slot changes.
+-- The keys of live records, slot by slot, after the record of one slot has changed.
 use Rattle.std.proofs.Common.{◌≡◌, ℕ, zero, suc, ◌<◌, refl, ap, sym, ◌∙◌, arith, List, [], ◌∷◌, length, map, replicate, slice_set}
 use Rattle.std.specs.Prelude.{Option, None, Some, slice_get}
 use Rattle.std.specs.Option.{option_and_then}
@@ -18,7 +18,7 @@ keys_set [] slot entry = refl
 keys_set (r ∷ rs) zero entry = refl
 keys_set (r ∷ rs) (suc n) entry = ap (λ (keys : List (Option Key)). live_key r ∷ keys) (keys_set rs n entry)
 
--- the key that is read after the change is noted
+-- once the key that is read after the change is noted for the slot, the keys are those of the live records
 pub noted : (live : List (Option Key)) (before t : Tree) (slot : ℕ) (entry : Option Record) (key : Option Key) → slot < length live
     → live ≡ map live_key before → t ≡ slice_set before slot entry → key ≡ live_key (option_and_then (λ item. item) (slice_get t slot)) → slice_set live slot key ≡ map live_key t
 noted live before t slot entry key within kept is read =

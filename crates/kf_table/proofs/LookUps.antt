@@ -1,4 +1,4 @@
--- What the indexes say is what the tree has.
+-- What the indexes say agrees with the tree.
 use Rattle.std.proofs.Common.{◌≡◌, ◌⊎◌, inl, inr, ℕ, suc, ◌+◌, ◌<◌, ◌≤◌, refl, ap, arith, sym, ◌∙◌, subst, Bool, true, false, cond, List, [], ◌∷◌, length, get_or, Bor}
 use Rattle.std.specs.Prelude.{Option, None, Some, IfSome, IfNone, slice_get, count_by, fold, is_some, not, ◌&&◌, IsTrue, ◌↔◌, ◌==◌}
 use Rattle.std.specs.List.{find as first, list_any}
@@ -82,7 +82,7 @@ module _ (t : Tree) (root : Key) (lawful : Lawful t root) where
           let keys = lawful.siblings s r s_in is (key_is dir s.parent parts.0 ∙ sym parent) ((bytes_eq-Decides s.name name).0 parts.1 ∙ sym named) in
           ap Some (same_record t s r s_in is keys)
 
-  -- a record in a slot stands there by its key
+  -- a record that was read from a slot is in the tree, and its key has this slot
   stands_in : (slot : ℕ) (r : Record) → Some r ≡ option_and_then (λ place. place) (slice_get t slot) → IsIn t r × (r.key.slot ≡ slot)
   stands_in slot r read =
       let here : slice_get t slot ≡ Some (Some r) = elim (slice_get t slot) as (λ o. Some r ≡ option_and_then (λ place. place) o → o ≡ Some (Some r)) [
@@ -92,7 +92,7 @@ module _ (t : Tree) (root : Key) (lawful : Lawful t root) where
       let place = lawful.in_place slot r here in
       (ap (slice_get t) place ∙ here, place)
 
-  -- a record in this directory under this name, wherever it was found, is the child
+  -- a record that is in this directory under this name is the child, whatever slot it was found in
   pub seen_child : (dir : Key) (name : List ℕ) (slot : ℕ) (r : Record) → Some r ≡ option_and_then (λ place. place) (slice_get t slot)
       → (is_key dir r.parent && bytes_eq r.name name) ≡ true → Some r ≡ child t dir name
   seen_child dir name slot r read passes =
@@ -113,7 +113,7 @@ module _ (t : Tree) (root : Key) (lawful : Lawful t root) where
           let parts = both (is_key dir s.parent) (bytes_eq s.name name) f.2 in
           absurd (nobody s (ap (slice_get t) (lawful.in_place f.0 s f.1) ∙ f.1) (key_is dir s.parent parts.0) ((bytes_eq-Decides s.name name).0 parts.1))
 
-  -- nothing is in a directory that is not linked
+  -- no record is in a directory that is not linked
   no_orphan : (dir : Key) → record_at t dir ≡ None → (r : Record) → IsIn t r → r.parent ≡ Some dir → ⊥
   no_orphan dir gone r is parent = let h = lawful.in_directory r dir is parent in none-some h.dir (sym gone ∙ h.known)
 
@@ -133,7 +133,7 @@ module _ (t : Tree) (root : Key) (lawful : Lawful t root) where
         | false ↦ λ e. refl
       ] refl
 
-  -- what is no directory has no children
+  -- a key that is not a directory has no children
   pub none_below : (key : Key) → option_map_or (λ (r : Record). is_dir r.node) (record_at t key) false ≡ false → AreNext t key None []
   unfolding AreNext
   none_below key not_dir = λ c i p.
@@ -163,7 +163,7 @@ module _ (t : Tree) (root : Key) (lawful : Lawful t root) where
         let f = found_in t dir d known in
         rw kept.as_many (slice_get_within t dir.slot (Some d) (ap (λ (k : Key). slice_get t k.slot) (sym f.1) ∙ f.0))
 
-    -- a parent in its slot is it
+    -- a parent whose slot is the directory's is this directory
     this_dir : (r : Record) (p : Key) → IsIn t r → r.parent ≡ Some p → p.slot ≡ dir.slot → p ≡ dir
     this_dir r p is parent slot =
         let h = lawful.in_directory r p is parent in
@@ -230,7 +230,7 @@ module _ (t : Tree) (root : Key) (lawful : Lawful t root) where
             i.has_key,
           )
 
-      -- the record that the index leads to has the key
+      -- the record that the index leads to has the key from the index
       pub child_keyed : (name : List ℕ) (key : Key) → Some key ≡ get kept_dir.index name → (r : Record) → option_and_then (λ place. place) (slice_get t key.slot) ≡ Some r → (r.key ≡ key) × IsIn t r
       child_keyed name key found r read =
           let c = led_child name key (sym found) in
@@ -282,13 +282,13 @@ module _ (t : Tree) (root : Key) (lawful : Lawful t root) where
         | false ↦ λ low. refl
       ] refl
 
-      -- what the index lists above a bound
+      -- what the index lists above a bound are the next children in the tree
       pub all_read : (bound : Option (List ℕ)) (all : List (List ℕ × Key)) → index.AreAbove kept_dir.index bound all → AreNext t dir bound all
       unfolding index.AreAbove AreNext
       all_read bound [] none = none_read bound none
       all_read bound (entry ∷ later) listed = (next_read bound entry.0 entry.1 listed.0, all_read (Some entry.0) later listed.1)
 
--- what is seen of a slot
+-- what holds for a record holds for the borrow of it that was read from a slot
 pub if_some : (P : Record → Type 0) (o : Option (Bor Record)) (x : Record) → option_copied o ≡ Some x → P x → IfSome o (λ b. P b.now)
 if_some P None x h p = absurd (none-some x h)
 if_some P (Some b) x h p = subst P (sym (same_Some b.now x h)) p

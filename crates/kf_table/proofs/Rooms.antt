@@ -22,7 +22,7 @@ use Rattle.kf_core.proofs.Lists.{slice_get-set_same, slice_get-set_other}
 use Rattle.kf_core.proofs.FoundRecords.{found_in}
 
 module _ (t : Tree) (root : Key) (lawful : Lawful t root) where
-  -- records whose parents are in one slot have one parent
+  -- records whose parents are in the same slot have the same parent
   pub one_dir : (r s : Record) (a b : Key) → IsIn t r → IsIn t s → r.parent ≡ Some a → s.parent ≡ Some b → a.slot ≡ b.slot → a ≡ b
   one_dir r s a b h g pa pb same =
       let x = lawful.in_directory r a h pa in
@@ -39,7 +39,7 @@ module _ (t : Tree) (root : Key) (lawful : Lawful t root) where
       let f = found_in t p x.dir x.known in
       slice_get_within t p.slot (Some x.dir) (ap (λ (k : Key). slice_get t k.slot) (sym f.1) ∙ f.0)
 
--- one more child directory than are kept is a small number still
+-- one more than the number of child directories is still below 2^64
 pub few_subdirs : (t : Tree) (ds : List Directory) (slot : ℕ) → AreKept t ds → slot < length t → subdirs_at ds slot + 1 < 2 ^ 64
 few_subdirs t ds slot kept low =
     let most = count_by-le-length (is_subdir_in slot) t in
@@ -47,7 +47,7 @@ few_subdirs t ds slot kept low =
     let few = kept.few in
     omega (arith, most, was, few)
 
--- ---- what a new record asks
+-- ---- what a new record requires
 
 module _ (t : Tree) (ds : List Directory) (kept : AreKept t ds) (r : Record) (vacant : slice_get t r.key.slot ≡ Some None)
     (root : Key) (lawful : Lawful (slice_set t r.key.slot (Some r)) root) (p : Key) (parent : r.parent ≡ Some p) where
@@ -77,7 +77,7 @@ module _ (t : Tree) (ds : List Directory) (kept : AreKept t ds) (r : Record) (va
           let keys = lawful.siblings i.child r still is_new (i.parent ∙ ap Some dirs ∙ sym parent) i.named in
           other (ap (λ (k : Key). k.slot) keys)
 
--- ---- what a move asks
+-- ---- what a move requires
 
 module _ (t : Tree) (ds : List Directory) (kept : AreKept t ds) (root : Key) (lawful : Lawful t root)
     (key dir : Key) (name : List ℕ) (r : Record) (known : record_at t key ≡ Some r)
@@ -117,7 +117,7 @@ module _ (t : Tree) (ds : List Directory) (kept : AreKept t ds) (root : Key) (la
   pub move_named : IsLawfulName name
   move_named = (lawful_after.in_directory moved dir is_moved refl).lawful_name
 
-  -- it is not in this directory under this name
+  -- the record is not yet in this directory under this name
   not_there : r.parent ≡ Some dir → r.name ≡ name → ⊥
   not_there parent named =
       let there : is_there_already t key dir name ≡ true =
@@ -126,7 +126,7 @@ module _ (t : Tree) (ds : List Directory) (kept : AreKept t ds) (root : Key) (la
       ∙ (bytes_eq-Decides r.name name).1 named in
       let no : false ≡ true = sym elsewhere ∙ there in cc
 
-  -- a directory in the slot of the new one is the new one
+  -- a parent in the slot of the new directory is the new directory
   one_place : (c : Record) (d : Key) → IsIn t c → c.parent ≡ Some d → d.slot ≡ dir.slot → d ≡ dir
   one_place c d h parent same =
       let x = lawful.in_directory c d h parent in

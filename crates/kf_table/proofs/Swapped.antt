@@ -1,4 +1,4 @@
--- Entering one name and taking another out, in either order.
+-- Entering one name and removing another makes the same indexes in either order.
 use Rattle.std.proofs.Common.{◌≡◌, inl, inr, ℕ, ◌+◌, ◌-◌, ◌<◌, refl, ap, arith, sym, ◌∙◌, Bool, true, false, cond, List, length, length-set, get_or}
 use Rattle.std.specs.Prelude.{Some}
 use Rattle.std.proofs.lemmas.Bool.Decides.{eqb_tells}
@@ -20,7 +20,7 @@ kept_along t ds es kept len same counts = record {
   counted = λ slot low. counts slot ∙ kept.counted slot low;
 }
 
--- entering one name and taking another out, in either order
+-- entering one name and removing another, in either order
 module _ (ds : List Directory) (at : ℕ) (name : List ℕ) (key : Key) (b : Bool) (p : Key) (old : List ℕ)
     (at_low : at < length ds) (p_low : p.slot < length ds) (apart : at ≡ p.slot → name ≡ old → ⊥) (counts : b ≡ true → 0 < subdirs_at ds p.slot) where
   abbrev with_new : List Directory

@@ -9,7 +9,7 @@ use Rattle.kf_core.specs.Commands.{activated_record}
 abbrev pub with_changed_slot : (Record → Record) → Tree → ℕ → Tree
 with_changed_slot f t slot = slice_set t slot (option_and_then (option_map f) (slice_get t slot))
 
--- the record as an activation leaves it, which passes over a doomed one
+-- the record as an activation leaves it; a doomed one stays as it is
 abbrev pub activated_unless_doomed : Record → Record
 activated_unless_doomed r = if r.marks.doomed then r else activated_record r
 

@@ -21,7 +21,7 @@ abbrev pub directories_code : Coded (List Directory)
 directories_code = coded_list (code_by (Entries × ℕ) (coded× entries_code coded_ℕ)
     (λ d. (d.index, d.subdirs)) (λ p. record { index = p.0; subdirs = p.1 }) (λ _. refl))
 
--- what a box of a slot holds, and a directory without children if there is none
+-- the directory in the box of a slot, or one without children if there is no box
 abbrev pub directory_in : Option (Box Directory) → Directory
 directory_in None = empty_directory
 directory_in (Some kept) = kept.value
@@ -57,7 +57,7 @@ with_entry slot name key is_subdir directories =
     slice_set directories slot
     (with_child name key is_subdir (slice_index_or directories slot empty_directory))
 
--- what is kept, with the record in its directory, if it has one
+-- what is kept, with the record as a child of its directory, if it has one
 abbrev pub with_record : Record → List Directory → List Directory
 with_record r directories = option_map_or
     (λ parent. with_entry parent.slot r.name r.key (is_dir r.node) directories) r.parent directories
@@ -74,7 +74,7 @@ abbrev pub without_record : Option Record → List Directory → List Directory
 without_record None directories = directories
 without_record (Some r) directories = without_entry r.parent r.name (is_dir r.node) directories
 
--- the name may enter the index of this slot
+-- the name may be added to the index of this slot
 pub record HasRoomFor (directories : List Directory) (slot : ℕ) (name : List ℕ) : Type 0 where
   pub within : slot < length directories
   pub lawful_name : IsLawfulName name
@@ -82,22 +82,23 @@ pub record HasRoomFor (directories : List Directory) (slot : ℕ) (name : List �
   pub few : subdirs_at directories slot + 1 < 2 ^ 64
   pub few_names : names_at directories slot < 2 ^ 32
 
--- if the record has a parent, its name may enter the index of the parent's slot
+-- if the record has a parent, its name may be added to the index of the parent's slot
 abbrev pub MayInsert : List Directory → Record → Type 0
 MayInsert directories r = (parent : Key) → r.parent ≡ Some parent → HasRoomFor directories parent.slot r.name
 
--- there is a directory for the record's parent, which counts it if it is a directory
+-- if there is a record and it has a parent, the parent's slot is there, and its count of child directories is
+-- above 0 if the record is a directory
 abbrev pub MayRemove : List Directory → Option Record → Type 0
 MayRemove directories None = Unit {0}
 MayRemove directories (Some r) = (parent : Key) → r.parent ≡ Some parent
     → (parent.slot < length directories) × (is_dir r.node ≡ true → 0 < subdirs_at directories parent.slot)
 
--- whether the parent is in this slot
+-- whether there is a parent, and it is in this slot
 abbrev pub is_slot_of : ℕ → Option Key → Bool
 is_slot_of slot None = false
 is_slot_of slot (Some parent) = parent.slot == slot
 
--- whether there is a record of a directory, whose parent is in this slot
+-- whether there is a record, it is a directory, and its parent is in this slot
 abbrev pub is_subdir_in : ℕ → Option Record → Bool
 is_subdir_in slot None = false
 is_subdir_in slot (Some r) = is_slot_of slot r.parent && is_dir r.node
@@ -112,8 +113,8 @@ pub record IsEntry (t : Tree) (slot : ℕ) (name : List ℕ) (key : Key) : Type 
   pub in_slot : dir.slot ≡ slot
   pub named : child.name ≡ name
 
--- the index of each slot leads from the names of its linked children to their keys, and to nothing else; its
--- child directories are counted
+-- there are fewer than 2^32 slots, and each has an index. The index leads from the names of the slot's linked
+-- children to their keys, and to nothing else. The slot's child directories are counted
 pub record AreKept (t : Tree) (directories : List Directory) : Type 0 where
   pub as_many : length directories ≡ length t
   pub few : length t < 2 ^ 32

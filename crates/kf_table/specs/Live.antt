@@ -18,7 +18,7 @@ lives_in (Some r) = lives r
 abbrev pub live_in : Tree → Key → Bool
 live_in t key = lives_in (record_at t key)
 
--- the key of a slot's record, if that is live
+-- the key of a slot's record, if the record is live
 abbrev pub live_key : Option Record → Option Key
 live_key None = None
 live_key (Some r) = if lives r then Some r.key else None

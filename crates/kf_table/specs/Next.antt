@@ -6,7 +6,7 @@ use Rattle.kf_core.specs.declared.key.Key.{Key}
 use Rattle.kf_core.specs.declared.records.Record.{Record}
 use Rattle.kf_core.specs.Tree.{Tree, IsIn}
 
--- whether one name stands before another in byte order
+-- whether one name comes before another in byte order
 abbrev pub before : List ℕ → List ℕ → Bool
 before a b = is_lt (slice_cmp nat_cmp a b)
 
@@ -15,7 +15,7 @@ abbrev pub above : Option (List ℕ) → List ℕ → Bool
 above None name = true
 above (Some bound) name = before bound name
 
--- a child of the directory above the bound, and no child above the bound stands before it
+-- a child of the directory above the bound, and no child above the bound comes before it
 pub record IsNext (t : Tree) (dir : Key) (bound : Option (List ℕ)) (c : Record) : Type 0 where
   pub is_in : IsIn t c
   pub parent : c.parent ≡ Some dir

@@ -1,4 +1,4 @@
-//! Tests of a record: whether it is a directory, and whether it is in this one.
+//! Tests of a record: whether it is a directory, whether it is live, and whether it is in a given directory.
 
 ghost use Rattle.std.specs.Prelude.{◌≡◌, ◌&&◌, false};
 ghost use Rattle.std.specs.Str.{bytes_eq};

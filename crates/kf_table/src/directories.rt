@@ -1,4 +1,4 @@
-//! What is kept of each directory, by slot, in boxes that slots have once they had a child.
+//! What is kept of each directory, by slot, in a box that is made for the directory's first child.
 
 ghost use Rattle.std.specs.Prelude.{◌≡◌, ◌<◌, None, IsTrue, IfSome, IfNone, IfOk, IfErr, OnOk, OnErr, replicate, slice_get, slice_set, slice_index_or};
 ghost use Rattle.std.specs.Option.{option_copied, option_and_then};
@@ -12,9 +12,9 @@ use kf_index::{Listed, Name};
 use std::alloc::Global;
 use std::marker::Model;
 
-/// The directories by slot. Each is in a box, which is made for its first child and dropped with its node: a
-/// slot that never had a child costs only the place of a box. Contracts see a directory in each
-/// slot; if there is no box, one without children.
+/// The directories by slot. Each one is in a box, which is made for its first child and dropped with its
+/// node. So a slot that never had a child costs only the place of a box. In contracts there is a directory in
+/// each slot; if a slot has no box, its directory has no children.
 #[derive(Drop)]
 pub(crate) struct Directories {
     boxes: SlotMap<Box<Directory>>,
@@ -33,7 +33,7 @@ impl Model for Directories {
     ghost view = { λ directories. map directory_in directories.boxes };
 }
 
-/// The box of a slot, taken out of its place, or a new one if there is none.
+/// Takes the box of a slot out of its place, or makes a new one if there is none.
 fn box_of(
     boxes: &mut SlotMap<Box<Directory>>,
     alloc: Global,
@@ -55,7 +55,7 @@ fn box_of(
 }
 
 impl Directories {
-    /// So many directories without children.
+    /// Makes this many directories, without children.
     pub(crate) fn new(alloc: Global, slots: u32) -> Result<Directories, Refusal>
         ensures made { IfOk result (λ directories. directories ≡ replicate slots empty_directory) }
         ensures refused { IfErr result (λ refusal. refusal ≡ Refusal.NoMemory) }
@@ -66,7 +66,7 @@ impl Directories {
         })
     }
 
-    /// The directory of a slot. None if it is without children and has no box.
+    /// The directory of a slot, or None if it has no children and no box.
     #[inline(always)]
     pub(crate) fn get(&self, slot: u32) -> Option<&Directory>
         ensures kept { IfSome result (λ kept. kept.now ≡ slice_index_or self.now slot empty_directory) }
@@ -99,7 +99,7 @@ impl Directories {
         }
     }
 
-    /// Puts a child into the directory of a slot. After a refusal all is as before.
+    /// Adds a child to the directory of a slot. After a refusal everything is as before.
     pub(crate) fn insert(
         &mut self,
         slot: u32,
@@ -121,7 +121,7 @@ impl Directories {
         inserted
     }
 
-    /// Takes a child out of the directory of a slot.
+    /// Removes a child from the directory of a slot.
     pub(crate) fn remove(&mut self, slot: u32, name: &[u8], is_subdir: bool)
         requires counted { IsTrue is_subdir → 0 < subdirs_at self.old slot }
         ensures removed { self.new ≡ slice_set self.old slot
@@ -144,8 +144,8 @@ impl Directories {
         }
     }
 
-    /// Puts a record's name into the index of its directory, if it has one. After a refusal all is as
-    /// before.
+    /// Adds a record's name to the index of its directory, if the record has one. After a refusal everything
+    /// is as before.
     pub(crate) fn insert_record(&mut self, entry: &Record) -> Result<(), Refusal>
         requires lawful { MayInsert self.old entry.now }
         ensures inserted { OnOk result (self.new ≡ with_record entry.now self.old) }
@@ -161,7 +161,7 @@ impl Directories {
         }
     }
 
-    /// Takes a record's name out of the index of its directory, if it has one.
+    /// Removes a record's name from the index of its directory, if the record has one.
     pub(crate) fn remove_record(&mut self, entry: Option<&Record>)
         requires counted { MayRemove self.old (option_copied entry) }
         ensures removed { self.new ≡ without_record (option_copied entry.entry) self.old }

@@ -1,4 +1,4 @@
-//! What is kept of a directory beside its record, so that no look-up walks all records.
+//! What is kept of a directory beside its record, so that no look-up has to walk all records.
 
 ghost use Rattle.std.specs.Prelude.{◌≡◌, ◌+◌, ◌^◌, ◌<◌, ◌↔◌, IsTrue, IfErr, OnOk, OnErr, if◌then◌else◌};
 ghost use Rattle.std.specs.Option.{option_copied};
@@ -21,7 +21,7 @@ pub(crate) struct Directory {
 }
 
 impl Directory {
-    /// A directory without children. Takes no memory.
+    /// Makes a directory without children. It allocates nothing.
     pub(crate) fn new(alloc: Global) -> Directory
         ensures empty { result ≡ empty_directory }
     {
@@ -39,14 +39,14 @@ impl Directory {
         self.index.get(name)
     }
 
-    /// Whether it is without children.
+    /// Whether it has no children.
     pub(crate) fn is_empty(&self) -> bool
         ensures known { IsTrue result ↔ (self.now ≡ empty_directory) }
     {
         self.index.len() == 0 && self.subdirs == 0
     }
 
-    /// Whether a search takes longer than a look at the slot of a hint.
+    /// Whether the directory is so large that a search takes longer than a look at the slot of a hint.
     #[inline(always)]
     pub(crate) fn is_large(&self) -> bool {
         self.index.len() >= LARGE
@@ -66,7 +66,7 @@ impl Directory {
         self.subdirs
     }
 
-    /// Puts a child in. After a refusal all is as before.
+    /// Adds a child. After a refusal everything is as before.
     pub(crate) fn insert(&mut self, name: Name, key: Key, is_subdir: bool) -> Result<(), Refusal>
         requires few { self.old.subdirs + 1 < 2 ^ 64 }
         requires few_names { map_of.len self.old.index < 2 ^ 32 }
@@ -82,7 +82,7 @@ impl Directory {
         Ok(())
     }
 
-    /// Takes a child out.
+    /// Removes a child.
     pub(crate) fn remove(&mut self, name: &[u8], is_subdir: bool)
         requires counted { IsTrue is_subdir → 0 < self.old.subdirs }
         ensures removed { self.new ≡ without_child name.now is_subdir self.old }

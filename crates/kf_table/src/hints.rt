@@ -1,4 +1,4 @@
-//! Where a child of a large directory is looked for first: the slot where its name was last put.
+//! Hints for look-ups in large directories: the slot in which a name was last put is looked at first.
 
 ghost use Rattle.std.specs.Prelude.{◌≤◌, ◌^◌, length};
 
@@ -6,34 +6,35 @@ use crate::directories::Directories;
 use kf_core::Record;
 use std::alloc::Global;
 
-/// So many places there are at first.
+/// How many places there are at first.
 const FIRST: usize = 256;
 
-/// If at most this many slots were reached, there are four places for each: one child in ten has its place
-/// taken by another. Where more were, there are two.
+/// If at most this many slots were reached, there are four places for each. Then one child in ten has its
+/// place taken by another. If more slots were reached, there are two places for each.
 const FEW: usize = 4096;
 
 /// An odd number whose multiples are spread (the kernel's `GOLDEN_RATIO_64`).
 const SPREAD: u64 = 0x61C8_8646_80B5_83EB;
 
-/// By a hash of a directory's slot and a name, the slot in which a record with them was last put: what the
-/// kernel's table of names is to a walk (`dentry_hashtable`). Nobody believes it: who reads a slot here
-/// looks whether the record there is the one that is asked for, and searches the index if it is not. So a
-/// record that goes leaves its slot here, and no clause says what is read. It serves large directories: in
-/// others a search is as short. It takes no memory until one has a child, and grows with the slots that were
-/// reached; if it may not grow it serves as it is.
+/// The slots in which records were last put, by a hash of the directory's slot and the record's name. To a
+/// walk they are what the kernel's table of names is (`dentry_hashtable`). A hint is never trusted: code that
+/// reads a slot here checks whether the record there is the one that it wants, and searches the index if it
+/// is not. So a record that is removed leaves its slot here, and no clause says what is read. Hints serve
+/// large directories; in others a search takes no longer. Nothing is allocated until a large directory gets a
+/// child. From then on the memory grows with the slots that were reached. If it cannot grow, the hints go on
+/// with the places that they have.
 #[derive(Drop)]
 pub(crate) struct Hints {
     slots: Vec<u32>,
 }
 
-/// A hash, with some more bits in it.
+/// Mixes some more bits into a hash.
 #[inline(always)]
 fn mixed(hash: u64, bits: u64) -> u64 {
     (hash.rotate_left(5) ^ bits).wrapping_mul(SPREAD)
 }
 
-/// A hash of a name, by eight bytes at a time, then four, then one.
+/// Hashes a name, by eight bytes at a time, then four, then one.
 #[inline(always)]
 fn hash_of(name: &[u8]) -> u64 {
     let mut hash = 0;
@@ -52,7 +53,7 @@ fn hash_of(name: &[u8]) -> u64 {
     hash
 }
 
-/// How many places there are to be once this many slots were reached.
+/// How many places there should be once this many slots were reached.
 fn wanted(slots: usize) -> usize
     requires few { slots ≤ 2 ^ 32 }
     ensures few { result ≤ 2 ^ 33 }
@@ -60,8 +61,9 @@ fn wanted(slots: usize) -> usize
     if slots <= FEW { slots * 4 } else { slots * 2 }
 }
 
-/// Makes twice as many places, or the first ones if there are none. If their memory is refused all is
-/// as before. A hint goes to both places that come of its old one, so it is found as it was.
+/// Doubles the number of places, or makes the first ones if there are none. If the memory is refused,
+/// everything is as before. Each hint is copied to both places that its old place becomes, so it is found as
+/// before.
 fn double(slots: &mut Vec<u32>)
     requires few { length slots.old.items ≤ 2 ^ 33 }
 {
@@ -79,15 +81,15 @@ fn double(slots: &mut Vec<u32>)
 }
 
 impl Hints {
-    /// No places yet. Takes no memory.
+    /// Makes hints without places. It allocates nothing.
     pub(crate) fn new(alloc: Global) -> Hints {
         Hints {
             slots: Vec::new(alloc),
         }
     }
 
-    /// The place for a name in the directory in this slot. The hash of the name comes first, by itself, so a
-    /// walk need not wait for the slot to begin it.
+    /// The place for a name in the directory in this slot. The name is hashed first, by itself, so a walk can
+    /// begin with that before it knows the slot.
     #[inline(always)]
     fn place(&self, dir: u32, name: &[u8]) -> usize {
         let hash = mixed(hash_of(name), dir as u64);
@@ -103,7 +105,9 @@ impl Hints {
         }
     }
 
-    /// From now on `get` returns this slot for this name, if its directory is a large one.
+    /// Stores this slot as the hint for this name, if the name's directory is a large one. Then `get` returns
+    /// the slot for the name, until another name takes the place. If there is no memory for any place,
+    /// nothing is stored.
     pub(crate) fn put(&mut self, directories: &Directories, dir: u32, name: &[u8], slot: u32) {
         let Some(kept) = directories.get(dir) else {
             return;

@@ -1,13 +1,13 @@
 //! The table of a tree: its records by slot, and beside each the index of its children.
 //!
-//! - `Table::new` has only the root. `record`, `child`, `children_above`, `parent` and `subdirs` look;
-//!   `add`, `take_out`, `move_to` and the marks (`doom`, `hide`, `show`, `activate`) change. Memory follows
-//!   the highest slot.
-//! - Contracts see a list of records by slot, so equal tables are equal values.
+//! - `Table::new` makes a table that has only the root. `record`, `child`, `children_above`, `parent` and
+//!   `subdirs` look; `add`, `take_out`, `move_to` and the marks (`doom`, `hide`, `show`, `activate`) change
+//!   it. The memory in use grows with the highest slot that ever had a record.
+//! - Contracts see a list of records by slot, so tables with equal lists are equal values.
 //!
-//! It judges nothing: who changes it shows that the tree is lawful afterwards (`Lawful`: parents are
-//! directories that are there, names are lawful and stand once). `kf_tree` does that and fails with
-//! refusals; begin there.
+//! The table does not check its changes. A caller that changes it must prove that the tree is lawful
+//! afterwards (`Lawful`: each parent is a directory that exists, and names are lawful and differ within a
+//! directory). `kf_tree` makes these checks and returns refusals: begin there.
 #![tactic(auto)]
 
 mod children;

@@ -1,4 +1,4 @@
-//! The records by slot, and beside each the key of the live one; how many records there are.
+//! The records by slot; beside each its key, if it is live; and how many records there are.
 
 ghost use Rattle.std.specs.Prelude.{◌≡◌, ◌<◌, Option, Some, None, IfOk, IfErr, length, map, replicate, slice_get, slice_set, count_by, is_some};
 ghost use Rattle.std.specs.Option.{option_copied, option_and_then};
@@ -14,11 +14,11 @@ use kf_core::{Key, NameBytes, Record, Refusal, SlotList, SlotMap};
 use std::alloc::Global;
 use std::marker::Model;
 
-/// The records by slot. Contracts see the tree.
+/// The records by slot. In contracts they are the tree.
 #[derive(Drop)]
 pub(crate) struct Records {
     slots: SlotMap<Record>,
-    /// The keys of the live ones, by slot: a listing looks at 12 bytes for each name and not at 88.
+    /// The keys of the live records, by slot. So a listing looks at 12 bytes for each name instead of 88.
     live: SlotList<Option<Key>>,
     /// How many records there are.
     linked: usize,
@@ -37,7 +37,7 @@ impl Model for Records {
         × (records.linked ≡ count_by is_some records.slots) };
 }
 
-/// The key of a slot's record, if that is live.
+/// The key of a slot's record, if the record is live.
 fn live_key(entry: Option<&Record>) -> Option<Key>
     ensures known { result ≡ live_key (option_copied entry.entry) }
 {
@@ -47,7 +47,7 @@ fn live_key(entry: Option<&Record>) -> Option<Key>
     }
 }
 
-/// Notes whether the record in this slot is live, which may have changed.
+/// Notes again whether the record in this slot is live, since that may have changed.
 fn note(live: &mut SlotList<Option<Key>>, slots: &SlotMap<Record>, slot: u32)
     ensures kept { (before : Tree) (entry : Option Record) → live.old ≡ map live_key before
         → slots.now ≡ slice_set before slot entry → live.new ≡ map live_key slots.now }
@@ -60,7 +60,7 @@ fn note(live: &mut SlotList<Option<Key>>, slots: &SlotMap<Record>, slot: u32)
 }
 
 impl Records {
-    /// So many slots without a record.
+    /// Makes this many slots, without records.
     pub(crate) fn new(alloc: Global, slots: u32) -> Result<Records, Refusal>
         ensures made { IfOk result (λ records. records ≡ replicate slots None) }
         ensures refused { IfErr result (λ refusal. refusal ≡ Refusal.NoMemory) }
@@ -88,7 +88,7 @@ impl Records {
         self.linked
     }
 
-    /// The record in a slot. None also past the last slot.
+    /// The record in a slot. It is None if the slot has no record, or is past the last slot.
     #[inline(always)]
     pub(crate) fn get(&self, slot: u32) -> Option<&Record>
         ensures known { option_copied result ≡ option_and_then (λ entry. entry) (slice_get self.now slot) }
@@ -155,7 +155,7 @@ impl Records {
         note(&mut self.live, &self.slots, slot);
     }
 
-    /// Puts the record in a slot into a directory, under a name.
+    /// Moves the record in a slot into a directory, under a name.
     pub(crate) fn move_to(&mut self, slot: u32, dir: Key, name: NameBytes)
         ensures changed { self.new ≡ with_changed_slot (moved_record dir name) self.old slot }
     {

@@ -44,7 +44,7 @@ pub(crate) fn set_hidden_slot(records: &mut SlotMap<Record>, slot: u32, hidden: 
     }
 }
 
-/// Puts the record in a slot into a directory, under a name.
+/// Moves the record in a slot into a directory, under a name.
 pub(crate) fn move_slot(records: &mut SlotMap<Record>, slot: u32, dir: Key, name: NameBytes)
     ensures changed { records.new ≡ with_changed_slot (moved_record dir name) records.old slot }
 {

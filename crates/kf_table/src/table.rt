@@ -21,8 +21,8 @@ use kf_index::Listed;
 use std::alloc::Global;
 use std::marker::Model;
 
-/// The records of a tree by slot, and beside each the index of its children and the number of child
-/// directories. Contracts see the tree.
+/// The records of a tree by slot, and beside each the index of its children and the number of its child
+/// directories. In contracts it is the tree.
 #[derive(Drop)]
 pub struct Table {
     records: Records,
@@ -43,7 +43,7 @@ impl Model for Table {
 }
 
 impl Table {
-    /// Only the root, and this many slots.
+    /// Makes a table with this many slots that has only the root.
     ///
     /// Condition: the root's slot is below `slots`.
     ///
@@ -89,7 +89,7 @@ impl Table {
         self.records.linked()
     }
 
-    /// The record in a slot.
+    /// The record in a slot, if there is one.
     #[inline(always)]
     pub fn in_slot(&self, slot: u32) -> Option<&Record>
         ensures known { option_copied result ≡ option_and_then (λ entry. entry) (slice_get self.now slot) }
@@ -97,7 +97,7 @@ impl Table {
         self.records.get(slot)
     }
 
-    /// Whether there is such a slot, without a record.
+    /// Whether the table has this slot, and the slot has no record.
     pub fn is_vacant(&self, slot: u32) -> bool
         ensures known { IsTrue result ↔ (slice_get self.now slot ≡ Some None) }
     {
@@ -126,7 +126,7 @@ impl Table {
         self.records.is_live(key)
     }
 
-    /// The directory of a key's record.
+    /// The key of the directory that a key's record is in, if there is one.
     pub fn parent(&self, key: Key) -> Option<Key>
         ensures known { result ≡ parent_of self.now key }
     {
@@ -136,7 +136,7 @@ impl Table {
         }
     }
 
-    /// Whether following parents from the key meets the top.
+    /// Whether the parents, from the key up, lead to `top`. They do if the key is `top` itself.
     #[tactic(auto, using(crate::proofs::Climbing::one_step))]
     pub fn is_below(&self, top: Key, key: Key) -> bool
         ensures known { result ≡ in_subtree self.now top key }
@@ -156,7 +156,7 @@ impl Table {
 
     /// The record with this name in this directory.
     ///
-    /// Condition: the table is lawful, as that of each tree is.
+    /// Condition: the table is lawful, as the table of each tree is.
     #[inline(always)]
     pub fn child(&self, dir: Key, name: &[u8]) -> Option<&Record>
         requires lawful { (root : Key) × Lawful self.now root }
@@ -167,7 +167,7 @@ impl Table {
         Some(found)
     }
 
-    /// The record with this name in a directory, and its key, if its hint leads to it.
+    /// The record with this name in a directory, and its key, if the hint for the name leads to it.
     #[inline(always)]
     fn hinted(&self, dir: Key, name: &[u8]) -> Option<(Key, &Record)>
         requires lawful { (root : Key) × Lawful self.now root }
@@ -185,7 +185,7 @@ impl Table {
     }
 
     /// The record with this name in a linked directory, and its key. The slot is known before the record is
-    /// read, mostly without a search.
+    /// read, usually without a search.
     ///
     /// Conditions: the table is lawful, and the directory is linked.
     #[inline(always)]
@@ -209,8 +209,8 @@ impl Table {
         }
     }
 
-    /// The names and keys of the children above the bound, or of all if there is no bound, in byte order
-    /// of names.
+    /// The names and keys of the children above the bound, or of all children if there is no bound, in byte
+    /// order of names.
     ///
     /// Condition: the table is lawful.
     pub fn children_above(&self, dir: Key, bound: Option<&[u8]>) -> Listed<'_>
@@ -223,8 +223,8 @@ impl Table {
         self.directories.above(dir.slot, bound)
     }
 
-    /// The names and keys of all children of a node, in byte order of names. A node that is no directory has
-    /// none, and no index is asked for them.
+    /// The names and keys of all children of a node, in byte order of names. A node that is not a directory
+    /// has none, and then no index is searched.
     ///
     /// Condition: the table is lawful.
     #[inline]
@@ -281,7 +281,7 @@ impl Table {
         Ok(())
     }
 
-    /// Takes the record of a linked key out, and its name out of the index of its directory.
+    /// Removes the record of a linked key, and removes its name from the index of its directory.
     ///
     /// Condition: the key is linked.
     pub fn take_out(&mut self, key: Key)
@@ -303,7 +303,7 @@ impl Table {
         !found.marks.doomed
     }
 
-    /// Dooms the record in a slot, and returns whether it was not doomed before.
+    /// Dooms the record in a slot, and returns whether there was a record there that was not doomed before.
     pub fn doom(&mut self, slot: u32) -> bool
         ensures changed { self.new ≡ with_changed_slot doomed_record self.old slot }
         ensures newly { result ≡ is_undoomed (slice_get self.old slot) }
@@ -334,9 +334,10 @@ impl Table {
         self.records.activate(slot);
     }
 
-    /// Puts the record of a linked key into a directory, under a name, and its entry into the index there.
+    /// Moves the record of a linked key into a directory, under a name, and its entry into the index of that
+    /// directory.
     ///
-    /// Conditions: the key is linked, the table is lawful and stays so, and the record does not have this
+    /// Conditions: the key is linked, the table is lawful and stays lawful, and the record is not in this
     /// place already.
     ///
     /// Refusal: NoMemory. Then the table is as before.

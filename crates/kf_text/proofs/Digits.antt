@@ -1,4 +1,4 @@
--- Digits in a base, tested one by one; they are text.
+-- Digits in a base can be tested one by one, and they are text.
 use Rattle.std.proofs.Common.{◌≡◌, ◌<◌, ◌≤◌, ◌∙◌, ◌&&◌, ℕ, Bool, List, [], ◌∷◌, true, false, length, ap, refl, arith, lt-ltb, ltb-true}
 use Rattle.std.specs.Char.{digit_value, is_digit}
 use Rattle.std.specs.List.{list_all}
@@ -32,7 +32,7 @@ pub test_from_numeral : (radix : ℕ) (ds : List ℕ) → IsNumeral radix ds
     → list_all (λ byte. is_digit byte radix) ds ≡ true
 test_from_numeral radix ds numeral = passes radix ds numeral.1
 
--- the byte of a digit, or of a letter
+-- the byte of a digit is at least that of `0`, and it is ASCII
 pub low : (c : ℕ) → digit_value c < 16 → 48 ≤ c
 low c digit = grind (arith, nat_tests)
 

@@ -1,4 +1,4 @@
--- A number on its own line is read again.
+-- A number that is written on its own line is read back as that number.
 use Rattle.std.proofs.Common.{◌≡◌, ◌<◌, ◌≤◌, ◌≤ℤ◌, ◌<ℤ◌, ◌+◌, ◌-◌, ◌^◌, ◌∙◌, ℕ, ℤ, zero, suc, pos, negsuc, neg_ℤ, FitsSigned, w64, true, false, cond, eqb, List, [], ◌∷◌, ◌++◌, length, take, drop, get_or, inl, inr, ap, refl, sym, subst, arith}
 use Rattle.std.specs.Prelude.{◌==◌, ◌⊎◌, Result, Ok, Err}
 use Rattle.std.specs.List.{position_or_len}
@@ -53,7 +53,7 @@ high_after_minus : (digits : List ℕ) → IsNumeral 10 digits → (k : ℕ) →
 high_after_minus digits numeral zero below = omega arith
 high_after_minus digits numeral (suc k) below = high_digits digits numeral k (omega arith)
 
--- such a text with a newline behind it is a line
+-- such a text with a newline after it is a line
 pub text_line : (text : List ℕ) → ((k : ℕ) → k < length text → 45 ≤ get_or text k 0)
     → line (text ++ 10 ∷ []) ≡ text
 text_line text high = ap without_newline (no_zero text high) ∙ line_of text
@@ -64,7 +64,7 @@ no_plus number small =
     let first = digit_at (decimal number) 0 numeral.1 numeral.0 in
     without_leading_plus_none (decimal number) (λ same. absurd (omega (arith, first, same)))
 
--- a text that is this number is read as it
+-- the text of a number is read as that number
 pub told : (base : Base) (number most : ℕ) (text : List ℕ) (read : Result ℕ NotRead) → number ≤ most
     → IsNumber base text → number_in base text ≡ number → ReadNumber base most text read → read ≡ Ok number
 told base number most text (Ok n) within numeral value read = ap Ok (read.1 ∙ value)
@@ -96,7 +96,7 @@ plain number small =
     ap (λ b. cond b (drop 1 (decimal number)) (without_leading_plus (decimal number))) (no_sign number small)
     ∙ no_plus number small
 
--- what is written of a number says it
+-- the text that is written for a number has that number as its value
 says : (number : ℤ) → FitsSigned w64 number
     → IsNumeral 10 (without_leading_sign (signed_decimal number))
     × (signed_digits_value 10 (signed_decimal number) ≡ number)
@@ -118,7 +118,7 @@ high (pos n) fits = high_digits (decimal n) (decimal_is_IsNumeral n (omega (arit
 high (negsuc n) fits =
     high_after_minus (decimal (suc n)) (decimal_is_IsNumeral (suc n) (omega (arith, fits.sfits))).0
 
--- a number between these is not out of their range
+-- a number in a range is not outside it
 out : {X : Type 0} {number least most : ℤ} → (number <ℤ least) ⊎ (most <ℤ number) → least ≤ℤ number
     → number ≤ℤ most → X
 out (inl under) above below = clash_ℤ under above

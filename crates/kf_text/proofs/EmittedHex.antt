@@ -1,4 +1,4 @@
--- A number in base 16 on its own line is read again.
+-- A number that is written in base 16 on its own line is read back as that number.
 use Rattle.std.proofs.Common.{◌≡◌, ◌<◌, ◌≤◌, ◌^◌, ◌∙◌, ◌&&◌, ◌||◌, ℕ, zero, suc, Bool, true, false, cond, eqb, List, [], ◌∷◌, ◌++◌, length, drop, get_or, codes, ap, refl, sym, subst, arith, ne_eqb}
 use Rattle.std.specs.Prelude.{Result, Ok}
 use Rattle.std.specs.Char.{digit_value}

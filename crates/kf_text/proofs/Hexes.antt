@@ -1,10 +1,10 @@
--- Digits in base 16 that are written from the last to the first.
+-- Digits in base 16 are written from the last to the first.
 use Rattle.std.proofs.Common.{◌≡◌, ◌<◌, ◌≤◌, ◌-◌, ◌+◌, ◌/◌, ◌%◌, ◌∙◌, ℕ, suc, false, cond, List, ◌∷◌, length, drop, set, ap, sym, subst, arith, eq-eqb, ne_eqb, drop_of_length-le}
 use Rattle.std.specs.Fmt.{digit_glyph, digits, digits_onto}
 use Rattle.std.proofs.lemmas.List.{drop-set}
 use Rattle.kf_text.specs.Texts.{hex}
 
--- a digit, and what is left of the number in front of it
+-- a digit, with the digits of what is left of the number in front of it
 abbrev after_digit : ℕ → ℕ → List ℕ → List ℕ
 after_digit room number tail = digits_onto room 16 false (number / 16) (digit_glyph false (number % 16) ∷ tail)
 
@@ -18,7 +18,7 @@ last : (room number : ℕ) (tail : List ℕ) → number / 16 ≡ 0
 last room number tail none =
     ap (λ b. cond b (digit_glyph false (number % 16) ∷ tail) (after_digit room number tail)) (eq-eqb _ 0 none)
 
--- the bytes from a digit that is written in front of others
+-- the bytes from a digit on, after it is written in front of others
 front : (bytes : List ℕ) (k byte digit : ℕ) → k < length bytes → byte ≡ digit
     → drop k (set bytes k byte) ≡ digit ∷ drop (suc k) bytes
 front bytes k byte digit within same =
@@ -31,7 +31,7 @@ unfolding digits
 begun bytes number long =
     ap (digits_onto 64 16 false number) (drop_of_length-le bytes {i = 64} (omega arith))
 
--- what the bytes from a place on and the rest of the number before them write
+-- the digits of the rest of the number, in front of the bytes from a place on, are the number in base 16
 abbrev pub Writes : ℕ → ℕ → List ℕ → ℕ → Type 0
 Writes at rest bytes number = digits_onto at 16 false rest (drop at bytes) ≡ hex number
 

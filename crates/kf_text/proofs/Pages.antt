@@ -1,4 +1,4 @@
--- A page that is filled twice.
+-- Filling a page twice is filling it once with both texts, one after the other.
 use Rattle.std.proofs.Common.{◌≡◌, ◌<◌, ◌-◌, ◌+◌, ◌++◌, ℕ, List, [], ◌∷◌, zero, suc, length, replicate, take, refl, ap, ◌≤◌, ◌∙◌, sym, append_assoc, arith, get_or}
 use Rattle.std.proofs.lemmas.List.{length-append, length-take}
 use Rattle.std.proofs.lemmas.List.{append-nil, take_more, take-replicate}
@@ -6,7 +6,7 @@ use Rattle.std.proofs.lemmas.Grind.{flat_map-append}
 use Rattle.kf_text.specs.declared.part.Part.{Part}
 use Rattle.kf_text.specs.Texts.{emitted, part_text, text_of, to_width}
 
--- the front of two lists, one behind the other
+-- the front of two lists, one after the other
 take-append : (k : ℕ) (one other : List ℕ) → take k (one ++ other) ≡ take k one ++ take (k - length one) other
 take-append zero [] other = refl
 take-append zero (byte ∷ one) other = let none : zero - length (byte ∷ one) ≡ zero = omega arith in rw none refl
@@ -24,7 +24,7 @@ pub emitted-emitted : (page one other : List ℕ) → emitted (emitted page one)
 emitted-emitted page one other =
     rw (room page one 4095, append_assoc, take-append (4095 - length page) one other) refl
 
--- a part behind the parts before it
+-- one more part, after the parts before it
 pub one_more : (parts : List Part) (i : ℕ) (d : Part) (page page' page'' : List ℕ) → i < length parts
     → page' ≡ emitted page (text_of (take i parts)) → page'' ≡ emitted page' (part_text (get_or parts i d))
     → page'' ≡ emitted page (text_of (take (i + 1) parts))
@@ -33,7 +33,7 @@ one_more parts i d page page' page'' inside before here =
     ∙ emitted-emitted page (text_of (take i parts)) (part_text (get_or parts i d))
     ∙ ap (emitted page) (sym (rw (take_more parts i d inside, flat_map-append part_text, append-nil) refl))
 
--- digits behind zeros that were put first
+-- digits after the zeros that were put first
 pub behind_zeros : (page page' page'' digits : List ℕ) (width missing : ℕ) → missing ≤ 255
     → missing ≡ width - length digits → page' ≡ emitted page (take missing (replicate 255 48))
     → page'' ≡ emitted page' digits → page'' ≡ emitted page (to_width width digits)

@@ -1,14 +1,14 @@
--- The text of parts, and what an emit makes of a page.
+-- The text of parts, and the page after an emit.
 use Rattle.std.specs.Prelude.{ℕ, ◌-◌, List, [], ◌∷◌, ◌++◌, length, take, decimal, flat_map, false, replicate, if◌then◌else◌}
 use Rattle.std.specs.Fmt.{digits, signed_decimal}
 use Rattle.kf_text.specs.declared.part.Part.{Part}
 use Rattle.kf_text.specs.declared.part.Part.TheVariants.{Text, Number, PaddedNumber, Signed, Hex, PaddedHex, Flag, Newline}
 
--- a number in base 16, in small letters
+-- a number in base 16, in lower case
 abbrev pub hex : ℕ → List ℕ
 hex number = digits 16 false number
 
--- digits behind zeros, to this width at least: 48 is `0`
+-- digits with zeros in front, to at least this width (48 is `0`)
 abbrev pub to_width : ℕ → List ℕ → List ℕ
 to_width width digits = replicate (width - length digits) 48 ++ digits
 
@@ -27,6 +27,6 @@ part_text Newline = 10 ∷ []
 abbrev pub text_of : List Part → List ℕ
 text_of parts = flat_map part_text parts
 
--- a page with a text behind what it has, as far as 4,095 bytes reach
+-- a page with a text after what the page has, as much of the text as fits into 4,095 bytes
 abbrev pub emitted : List ℕ → List ℕ → List ℕ
 emitted page text = page ++ take (4095 - length page) text

@@ -1,4 +1,4 @@
-//! The base of a number, and where its digits begin.
+//! The base of a number, and the place at which its digits begin.
 ghost use Rattle.std.specs.Prelude.{◌≡◌, ◌≤◌};
 ghost use Rattle.kf_text.specs.Readings.{digits_of, radix_of};
 
@@ -7,14 +7,16 @@ ghost use Rattle.kf_text.specs.Readings.{digits_of, radix_of};
 pub enum Base {
     /// Base 10 (the kernel's `10`).
     Decimal,
-    /// Base 16, in small letters or large ones, maybe behind `0x` or `0X` (the kernel's `16`).
+    /// Base 16, in lower-case or upper-case letters, with or without a leading `0x` or `0X` (the kernel's
+    /// `16`).
     Hex,
-    /// Base 16 behind `0x` or `0X`, base 8 if a `0` is first, and base 10 elsewhere (the kernel's `0`).
+    /// Base 16 after a leading `0x` or `0X`, else base 8 after a leading `0`, else base 10 (the kernel's
+    /// `0`).
     ByPrefix,
 }
 
-// The base that a text is in, and its digits in it (`_parse_integer_fixup_radix`). A `0x` with no digit
-// behind it leaves no digits, if the kernel's base 0 finds a `0` with an `x` behind it: both are refused.
+// The base of a text, and its digits in this base (`_parse_integer_fixup_radix`). A `0x` with no digit after
+// it leaves no digits here. The kernel's base 0 takes it for a `0` with an `x` after it. Both refuse it.
 pub(crate) fn digits_in(text: &[u8], base: Base) -> (u32, &[u8])
     ensures radix { result.0 ≡ radix_of base text.now }
     ensures low { 2 ≤ result.0 }

@@ -3,7 +3,7 @@ ghost use Rattle.std.specs.Prelude.{◌≡◌, ◌<◌, ◌≤◌, drop, false};
 ghost use Rattle.std.specs.Fmt.{digit_glyph};
 ghost use Rattle.kf_text.specs.Texts.{hex};
 
-// A digit's byte, in small letters.
+// The byte of a digit, in lower case.
 fn digit(value: u64) -> u8
     requires below { value < 16 }
     ensures byte { result ≡ digit_glyph false value }
@@ -15,7 +15,8 @@ fn digit(value: u64) -> u8
     }
 }
 
-// Writes the digits of a number at the end of the bytes, the last first, and returns where they begin.
+// Writes the digits of a number to the end of the bytes, the last digit first, and returns the place of the
+// first digit.
 fn write_hex(number: u64, bytes: &mut [u8; 64]) -> usize
     ensures within { result ≤ 64 }
     ensures digits { drop result bytes.new ≡ hex number }
@@ -33,7 +34,7 @@ fn write_hex(number: u64, bytes: &mut [u8; 64]) -> usize
     at
 }
 
-// The digits of a number, in these bytes.
+// Writes the digits of a number into these bytes, and returns them.
 pub(crate) fn hex(number: u64, bytes: &mut [u8; 64]) -> &[u8]
     ensures digits { result.now ≡ hex number }
 {

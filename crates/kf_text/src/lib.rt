@@ -1,13 +1,15 @@
-//! Texts of attributes: a page filled with parts, as `sysfs_emit` does it, and numbers, words and lines read
-//! from what was stored, as `kstrtol`, `match_string` and `sysfs_streq` do it.
+//! Writes and reads the texts of attributes. It fills a page with parts, as `sysfs_emit` does, and reads
+//! numbers, words and lines from what was stored, as `kstrtol`, `match_string` and `sysfs_streq` do.
 //!
-//! - `emit(&mut page, &[Part::Number(1200), Part::Text(b"\n")])` fills a page up to its last byte but one.
-//! - `read_unsigned`, `read_signed` (base 10) and `read_unsigned_in`, `read_signed_in` (a `Base`) read a
-//!   whole store within bounds; `read_flag` and `read_word` a switch or one of several words; `line_of`
-//!   takes one newline off.
-//! - `NotRead` says why not, with the system's number.
+//! - `emit(&mut page, &[Part::Number(1200), Part::Text(b"\n")])` appends a text to a page. It never fills the
+//!   page's last byte.
+//! - `read_unsigned` and `read_signed` (base 10), and `read_unsigned_in` and `read_signed_in` (any `Base`),
+//!   read a whole store as a number within bounds. `read_flag` reads a switch, and `read_word` one of several
+//!   words. `line_of` removes one newline from the end.
+//! - `NotRead` says why a store could not be read, with the kernel's error number.
 //!
-//! A caller shows nothing. What was emitted on a line is read again as it was (`emitted_is_read`).
+//! A caller has nothing to prove. A number that was emitted on its own line is read back unchanged
+//! (`emitted_is_read`).
 #![tactic(auto)]
 
 mod base;

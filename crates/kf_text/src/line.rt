@@ -20,8 +20,8 @@ pub(crate) fn until_zero(bytes: &[u8]) -> &[u8]
     }
 }
 
-/// The text of a store, which it may keep: the bytes before the first zero byte, without the newline that
-/// ends them, if one does. Spaces stay, unlike those of `strim`.
+/// The text that a store may keep: the bytes before the first zero byte, without the newline that ends them,
+/// if there is one. Spaces stay, unlike with `strim`.
 pub fn line_of(bytes: &[u8]) -> &[u8]
     ensures line { result.now ≡ line bytes.now }
 {

@@ -1,4 +1,4 @@
-//! Numbers in the bytes of a store.
+//! Reads numbers from the bytes of a store.
 ghost use Rattle.std.specs.Prelude.{◌≡◌, FitsSigned};
 ghost use Rattle.std.specs.Int.{w64};
 ghost use Rattle.std.specs.Option.{SomeIff};
@@ -10,7 +10,7 @@ use crate::line::line_of;
 use crate::not_read::NotRead;
 use crate::numeral::{is_numeral, parse};
 
-// The text behind a plus, if one stands in front.
+// The text without its leading plus, if it has one.
 fn after_plus(text: &[u8]) -> &[u8]
     ensures after { result.now ≡ without_leading_plus text.now }
 {
@@ -20,14 +20,14 @@ fn after_plus(text: &[u8]) -> &[u8]
     }
 }
 
-// Whether a minus stands in front.
+// Whether the text has a leading minus.
 fn has_minus(text: &[u8]) -> bool
     ensures value { result ≡ starts_with_minus text.now }
 {
     text.first() == Some(&b'-')
 }
 
-// The text behind a minus or a plus, if one stands in front.
+// The text without its leading minus or plus, if it has one.
 fn after_sign(text: &[u8]) -> &[u8]
     ensures after { result.now ≡ without_leading_sign text.now }
 {
@@ -37,7 +37,7 @@ fn after_sign(text: &[u8]) -> &[u8]
     }
 }
 
-// A number with no sign in front.
+// Reads a number that has no sign.
 fn read_number(text: &[u8], base: Base, most: u64) -> Result<u64, NotRead>
     ensures read { ReadNumber base most text.now result }
 {
@@ -51,7 +51,7 @@ fn read_number(text: &[u8], base: Base, most: u64) -> Result<u64, NotRead>
     }
 }
 
-// The number with its sign, where 64 bits have room for it.
+// The number with its sign, if it fits into 64 bits.
 fn signed(is_negative: bool, number: u64) -> Option<i64>
     ensures value { SomeIff result (FitsSigned w64 (with_sign is_negative number))
         (with_sign is_negative number) }
@@ -64,20 +64,20 @@ fn signed(is_negative: bool, number: u64) -> Option<i64>
     }
 }
 
-/// A number in a base, at most `most` (`kstrtoull`; with the type's largest number `kstrtouint`, `kstrtoul`
-/// and others). A plus may stand in front, and a newline at the end. A zero byte and what follows it are not
-/// read.
+/// Reads a number in a base, at most `most` (`kstrtoull`; with a type's greatest number as `most`:
+/// `kstrtouint`, `kstrtoul` and others). The number may have a plus in front and a newline at the end. A zero
+/// byte and what follows it are not read.
 ///
-/// Errors, in order: Invalid (no number, or one with a minus), Range (above `most`). Unlike the kernel's,
-/// digits beyond 64 bits with another byte behind them are Invalid.
+/// Errors, in order: Invalid (no number, or one with a minus), Range (above `most`). Unlike in the kernel,
+/// digits that exceed 64 bits are Invalid if another byte follows them.
 pub fn read_unsigned_in(bytes: &[u8], base: Base, most: u64) -> Result<u64, NotRead>
     ensures read { ReadUnsignedIn base most (line bytes.now) result }
 {
     read_number(after_plus(line_of(bytes)), base, most)
 }
 
-/// A number in decimal, at most `most`: `read_unsigned_in` of base 10 (`kstrtou64` of base 10; with the
-/// type's largest number `kstrtou8` and others).
+/// Reads a number in decimal, at most `most`: `read_unsigned_in` with base 10 (`kstrtou64` with base 10; with
+/// a type's greatest number as `most`: `kstrtou8` and others).
 ///
 /// Errors, in order: Invalid (no number, or one with a minus), Range (above `most`).
 pub fn read_unsigned(bytes: &[u8], most: u64) -> Result<u64, NotRead>
@@ -86,12 +86,12 @@ pub fn read_unsigned(bytes: &[u8], most: u64) -> Result<u64, NotRead>
     read_unsigned_in(bytes, Base::Decimal, most)
 }
 
-/// A number in a base, from `least` to `most` (`kstrtoll`; with the type's numbers `kstrtoint`, `kstrtol` and
-/// others). A plus or a minus may stand in front, before the prefix of the base, and a newline at the end. A
-/// zero byte and what follows it are not read.
+/// Reads a number in a base, from `least` to `most` (`kstrtoll`; with the bounds of a type: `kstrtoint`,
+/// `kstrtol` and others). The number may have a plus or a minus in front, before the prefix of the base, and
+/// a newline at the end. A zero byte and what follows it are not read.
 ///
-/// Errors, in order: Invalid (no number), Range (below `least` or above `most`). Unlike the kernel's, digits
-/// beyond 64 bits with another byte behind them are Invalid.
+/// Errors, in order: Invalid (no number), Range (below `least` or above `most`). Unlike in the kernel, digits
+/// that exceed 64 bits are Invalid if another byte follows them.
 pub fn read_signed_in(bytes: &[u8], base: Base, least: i64, most: i64) -> Result<i64, NotRead>
     ensures read { ReadSignedIn base least most (line bytes.now) result }
 {
@@ -106,8 +106,8 @@ pub fn read_signed_in(bytes: &[u8], base: Base, least: i64, most: i64) -> Result
     }
 }
 
-/// A number in decimal, from `least` to `most`: `read_signed_in` of base 10 (`kstrtoint` of base 10 and
-/// others, with the type's numbers).
+/// Reads a number in decimal, from `least` to `most`: `read_signed_in` with base 10 (with the bounds of a
+/// type: `kstrtoint` with base 10, and others).
 ///
 /// Errors, in order: Invalid (no number), Range (below `least` or above `most`).
 pub fn read_signed(bytes: &[u8], least: i64, most: i64) -> Result<i64, NotRead>

@@ -1,4 +1,4 @@
-//! Digits in a base, and the number that they write.
+//! Digits in a base, and the number that they spell.
 ghost use Rattle.std.specs.Prelude.{◌≡◌, ◌↔◌, ◌<◌, ◌≤◌, ◌^◌, IsTrue};
 ghost use Rattle.std.specs.Char.{is_digit};
 ghost use Rattle.std.specs.List.{list_all};
@@ -14,7 +14,7 @@ fn are_digits(bytes: &[u8], radix: u32) -> bool
     bytes.iter().all(|byte| char::from(*byte).is_digit(radix))
 }
 
-// One digit or more in a base, and nothing else.
+// Whether the bytes are one or more digits in a base, and nothing else.
 #[tactic(auto, using(crate::proofs::Digits::numeral_from_test, crate::proofs::Digits::test_from_numeral))]
 pub(crate) fn is_numeral(digits: &[u8], radix: u32) -> bool
     requires low { 2 ≤ radix }
@@ -24,7 +24,7 @@ pub(crate) fn is_numeral(digits: &[u8], radix: u32) -> bool
     !digits.is_empty() && are_digits(digits, radix)
 }
 
-// The number that digits write, where 64 bits have room for it.
+// The number that the digits spell, if it fits into 64 bits.
 pub(crate) fn parse(digits: &[u8], radix: u32) -> Option<u64>
     requires low { 2 ≤ radix }
     requires high { radix ≤ 16 }

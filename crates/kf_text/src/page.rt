@@ -1,4 +1,4 @@
-//! A page is filled.
+//! Fills a page with a text.
 ghost use Rattle.std.specs.Prelude.{◌≡◌, ◌+◌, length, take};
 ghost use Rattle.kf_text.specs.Texts.{emitted, part_text, text_of, to_width};
 
@@ -7,10 +7,10 @@ use crate::part::Part;
 use arrayvec::ArrayVec;
 use itoa::Buffer;
 
-/// As many bytes as a text may have on a page.
+/// The greatest number of bytes that a text may have on a page.
 const MOST: usize = 4095;
 
-// Puts bytes behind what the page has, as far as there is room.
+// Appends bytes to the page, as far as there is room.
 fn put(page: &mut ArrayVec<u8, 4096>, bytes: &[u8])
     ensures put { page.new.items ≡ emitted page.old.items bytes.now }
 {
@@ -19,7 +19,7 @@ fn put(page: &mut ArrayVec<u8, 4096>, bytes: &[u8])
     let _ = page.try_extend_from_slice(&bytes[..end]);
 }
 
-// Puts digits behind zeros, to this width at least, as far as there is room.
+// Appends digits to the page, with zeros in front to at least this width, as far as there is room.
 fn put_to_width(page: &mut ArrayVec<u8, 4096>, digits: &[u8], width: u8)
     ensures put { page.new.items ≡ emitted page.old.items (to_width width digits.now) }
 {
@@ -29,7 +29,7 @@ fn put_to_width(page: &mut ArrayVec<u8, 4096>, digits: &[u8], width: u8)
     put(page, digits);
 }
 
-// Puts a part behind what the page has, as far as there is room.
+// Appends a part to the page, as far as there is room.
 fn put_part(page: &mut ArrayVec<u8, 4096>, part: &Part)
     ensures put { page.new.items ≡ emitted page.old.items (part_text part.now) }
 {
@@ -52,8 +52,9 @@ fn put_part(page: &mut ArrayVec<u8, 4096>, part: &Part)
     }
 }
 
-/// Puts the parts' text behind what the page has (`sysfs_emit` on an empty page; `emit_at(page, 0, ..)` on
-/// any). A page shows at most 4,095 bytes: what does not fit is cut. Returns how many bytes it put there.
+/// Appends the text of the parts to the page, and returns how many bytes it appended. On an empty page this
+/// is `sysfs_emit`. On any page, `emit_at(page, 0, ..)` is `sysfs_emit`. A page shows at most 4,095 bytes:
+/// what does not fit is cut off.
 pub fn emit(page: &mut ArrayVec<u8, 4096>, parts: &[Part]) -> usize
     ensures text { page.new.items ≡ emitted page.old.items (text_of parts.now) }
     ensures count { length page.old.items + result ≡ length page.new.items }
@@ -65,8 +66,8 @@ pub fn emit(page: &mut ArrayVec<u8, 4096>, parts: &[Part]) -> usize
     page.len() - before
 }
 
-/// As `emit`, behind the first `at` bytes of what the page has; the rest of it goes (`sysfs_emit_at`). Where
-/// the page has fewer bytes, behind all of them, unlike the kernel's.
+/// Like `emit`, but after the first `at` bytes of the page: the bytes after those are dropped first
+/// (`sysfs_emit_at`). If the page has fewer bytes, the text follows all of them, unlike in the kernel.
 pub fn emit_at(page: &mut ArrayVec<u8, 4096>, at: usize, parts: &[Part]) -> usize
     ensures text { page.new.items ≡ emitted (take at page.old.items) (text_of parts.now) }
     ensures count { length (take at page.old.items) + result ≡ length page.new.items }

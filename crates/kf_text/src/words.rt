@@ -1,4 +1,4 @@
-//! Flags and words in the bytes of a store.
+//! Reads flags and words from the bytes of a store.
 ghost use Rattle.std.specs.Prelude.{◌≡◌, MatchOption, ok_or, position};
 ghost use Rattle.std.specs.Str.{bytes_eq};
 ghost use Rattle.kf_text.specs.Readings.{flag, same_line, same_text, with_newline};
@@ -6,8 +6,9 @@ ghost use Rattle.kf_text.specs.Readings.{flag, same_line, same_text, with_newlin
 use crate::line::until_zero;
 use crate::not_read::NotRead;
 
-/// A flag (`kstrtobool`): true if the first byte is one of `eEyYtT1` or the first two are `on`, false
-/// if it is one of `dDnNfF0` or they are `of`, in small letters or large ones.
+/// Reads a flag (`kstrtobool`). It is true if the first byte is one of `eEyYtT1` or the first two are `on`,
+/// and false if the first byte is one of `dDnNfF0` or the first two are `of`. The letters of `on` and `of`
+/// may be in lower or upper case.
 ///
 /// Error: Invalid (anything else).
 pub fn read_flag(bytes: &[u8]) -> Result<bool, NotRead>
@@ -22,7 +23,7 @@ pub fn read_flag(bytes: &[u8]) -> Result<bool, NotRead>
     }
 }
 
-// Whether the first is the second with a newline behind it.
+// Whether the first text is the second with a newline after it.
 #[tactic(auto, using(crate::proofs::Lines::same, crate::proofs::Lines::other, crate::proofs::Lines::none))]
 fn ends_a_line(one: &[u8], other: &[u8]) -> bool
     ensures ends { result ≡ bytes_eq one.now (with_newline other.now) }
@@ -48,17 +49,17 @@ pub fn is_same_text(one: &[u8], other: &[u8]) -> bool
     is_same_line(until_zero(one), until_zero(other))
 }
 
-// The place of the first word that is this text.
+// The place of the first word that is the same text, as `is_same_text` says.
 fn place_of(words: &[&[u8]], text: &[u8]) -> Option<usize>
     ensures first { result ≡ position (λ word. same_text word.now text.now) words.now }
 {
     words.iter().position(|word| is_same_text(word, text))
 }
 
-/// The place in a list of the first word that is this text, each up to its first zero byte, except for a
-/// newline at the end (`sysfs_match_string`).
+/// The place in a list of the first word that is the same text as these bytes, as `is_same_text` says
+/// (`sysfs_match_string`).
 ///
-/// Error: Invalid (no word is).
+/// Error: Invalid (no word is the same text).
 pub fn read_word(words: &[&[u8]], bytes: &[u8]) -> Result<usize, NotRead>
     ensures read { result ≡
         ok_or (position (λ word. same_text word.now bytes.now) words.now) NotRead.Invalid }

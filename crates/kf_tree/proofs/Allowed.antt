@@ -1,4 +1,4 @@
--- What follows if a call has no cause against it.
+-- What follows if there is no cause to refuse a call.
 use Rattle.std.proofs.Common.{◌≡◌, ◌≢◌, ℕ, refl, ap, sym, ◌∙◌, Bool, true, false, List, [], ◌∷◌}
 use Rattle.std.specs.Prelude.{Option, None, Some, slice_get, is_some, not, ◌&&◌}
 use Rattle.std.specs.List.{find as first}
@@ -46,7 +46,7 @@ dir_node Dir h = refl
 dir_node (File mode tag) h = absurd (let x : false ≡ true = h in cc)
 dir_node (Link target) h = absurd (let x : false ≡ true = h in cc)
 
--- no record of the directory has the name, if it has no entry of it
+-- if the directory has no entry of this name, no record in it has the name
 pub name_free : (t : Tree) (dir : Key) (name : List ℕ) → has_entry t dir name ≡ false → (s : Record) → IsIn t s → s.parent ≡ Some dir → s.name ≡ name → ⊥
 name_free t dir name h s i p n =
     (let is : is_under dir (λ (r : Record). bytes_eq r.name name) (Some s) ≡ true = ap (λ b. b && bytes_eq s.name name) (is_key_self dir s.parent p) ∙ (bytes_eq-Decides s.name name).1 n in
@@ -56,7 +56,7 @@ name_free t dir name h s i p n =
       | Some r ↦ λ e b. (let found : has_entry t dir name ≡ true = ap (λ o. is_some (option_and_then (λ place. place) o)) e in cc (found, h))
     ] f.1 f.2)
 
--- no record is in the directory, if it has no child
+-- if the directory has no child, no record is in it
 pub childless : (t : Tree) (dir : Key) → has_child t dir ≡ false → (s : Record) → IsIn t s → s.parent ≡ Some dir → ⊥
 childless t dir h s i p = (let any = some_any (is_under dir (λ r. true)) t s.key.slot (Some s) i (ap (λ b. b && true) (is_key_self dir s.parent p)) in cc (any, h))
 

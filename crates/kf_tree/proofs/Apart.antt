@@ -1,4 +1,4 @@
--- What stands apart before a node, when a walk goes down to a child, on to a sibling, or up.
+-- Which keys are apart from a node, and before it, as a walk goes down to a child, on to a sibling, or up.
 use Rattle.std.proofs.Common.{◌≡◌, ◌⊎◌, inl, inr, ℕ, zero, suc, ◌+◌, ◌-◌, ◌≤◌, refl, ap, arith, sym, ◌∙◌, true, false}
 use Rattle.std.specs.Prelude.{None, Some, ◌↔◌}
 use Rattle.std.proofs.lemmas.Option.{same_Some}
@@ -27,7 +27,8 @@ module _ (t : Tree) (root : Key) (l : Lawful t root) where
   sub_trans a b r i h g = (let x = subtree_to t root l b r.key g in let y = subtree_to t root l a b h in
       subtree_from t root l r (x.0 + y.0) a i (climb_rest (parent_of t) x.0 y.0 r.key b x.1 ∙ y.1))
 
-  -- what a record is below is the record itself, or its directory is below it
+  -- a key that has the record in its subtree is the record's own key, or has the record's directory in its
+  -- subtree
   pub sub_up : (a : Key) (r : Record) (d : Key) → IsIn t r → r.parent ≡ Some d → in_subtree t a r.key ≡ true → (r.key ≡ a) ⊎ (in_subtree t a d ≡ true)
   sub_up a r d i p h = (let s = subtree_to t root l a r.key h in up s.0 s.1)
     where
@@ -38,7 +39,8 @@ module _ (t : Tree) (root : Key) (l : Lawful t root) where
           let same : f.0 ≡ d = same_Some f.0 d (sym f.1 ∙ parent_known t r i ∙ p) in
           inr (sym (ap (in_subtree t a) x.2) ∙ subtree_from t root l x.0 n a x.1 (ap (ancestor t n) (x.2 ∙ sym same) ∙ f.2)))
 
-  -- what is below a directory is the directory itself, or below one of its children
+  -- a record in the subtree of a directory is the directory itself, or is in the subtree of one of its
+  -- children
   pub sub_down : (d : Key) (r : Record) → IsIn t r → in_subtree t d r.key ≡ true → (r.key ≡ d) ⊎ ((c : Record) × (IsIn t c) × (c.parent ≡ Some d) × (in_subtree t c.key r.key ≡ true))
   sub_down d r i h = (let s = subtree_to t root l d r.key h in down s.0 s.1)
     where
@@ -46,7 +48,7 @@ module _ (t : Tree) (root : Key) (l : Lawful t root) where
       down zero e = inl (same_Some r.key d e)
       down (suc n) e = (let m = met_parent t n r.key d e in inr (m.0, m.1, m.3, subtree_from t root l r n m.0.key i m.2))
 
-  -- of two that a record is below, one is below the other
+  -- if a record is in the subtrees of two keys, one of these keys is in the subtree of the other
   pub sub_along : (a b : Key) (r : Record) → IsIn t r → in_subtree t a r.key ≡ true → in_subtree t b r.key ≡ true → (in_subtree t a b ≡ true) ⊎ (in_subtree t b a ≡ true)
   sub_along a b r i h g = (let x = subtree_to t root l a r.key h in let y = subtree_to t root l b r.key g in
       elim (lt_or_le x.0 y.0) [
@@ -62,7 +64,7 @@ module _ (t : Tree) (root : Key) (l : Lawful t root) where
           let w = met_linked t root l n r a i x in
           sym (ap (in_subtree t b) w.2) ∙ subtree_from t root l w.0 (m - n) b w.1 (ap (ancestor t (m - n)) (w.2 ∙ sym same) ∙ c.2))
 
-  -- of two siblings neither is below the other
+  -- if a record is in the subtree of its sibling, the two are the same
   pub one_sibling : (r s : Record) (d : Key) → IsIn t r → IsIn t s → r.parent ≡ Some d → s.parent ≡ Some d → in_subtree t r.key s.key ≡ true → s.key ≡ r.key
   one_sibling r s d i j p q h = elim (sub_up r.key s d j q h) [ inl e ↦ e | inr b ↦ absurd (child_below t root l d r i p b) ]
 
@@ -70,7 +72,7 @@ module _ (t : Tree) (root : Key) (l : Lawful t root) where
   not_itself r s i j e b = (let same : r.name ≡ s.name = ap (λ (x : Record). x.name) (same_record t r s i j e) in
       let x : true ≡ false = sym b ∙ ap (λ n. before n s.name) same ∙ before_not_self s.name in cc)
 
-  -- the directory in which two that are apart part
+  -- the two siblings that keep a pair of keys apart are in one directory
   pub apart_dir : (a b : Key) (p : AreApart t a b) → (d : Key) × (p.first.parent ≡ Some d) × (p.second.parent ≡ Some d)
   apart_dir a b p = elim p.first.parent as (λ o. p.first.parent ≡ o → (d : Key) × (p.first.parent ≡ Some d) × (p.second.parent ≡ Some d)) [
     | None ↦ λ e. absurd (not_itself p.first p.second p.first_in p.second_in
@@ -78,7 +80,7 @@ module _ (t : Tree) (root : Key) (l : Lawful t root) where
     | Some d ↦ λ e. (d, e, sym p.siblings ∙ e)
   ] refl
 
-  -- nothing is apart from itself
+  -- no record is apart from itself
   pub not_apart : (r : Record) → IsIn t r → AreApart t r.key r.key → ⊥
   not_apart r i p = (let d = apart_dir r.key r.key p in
       let order = less_before p.first.name p.second.name p.order in
@@ -87,18 +89,19 @@ module _ (t : Tree) (root : Key) (l : Lawful t root) where
         | inr h ↦ not_itself p.first p.second p.first_in p.second_in (one_sibling p.second p.first d.0 p.second_in p.first_in d.2 d.1 h) order
       ])
 
-  -- apart from one that the second is over
+  -- what is apart from a key is also apart from every key in the subtree of the same second sibling
   under : (k a b : Key) (p : AreApart t k a) → in_subtree t p.second.key b ≡ true → AreApart t k b
   under k a b p h = record { first = p.first; second = p.second; first_in = p.first_in; second_in = p.second_in; siblings = p.siblings; order = p.order; over_a = p.over_a; over_b = h }
 
-  -- what is below a record is not apart from it
+  -- a record is not apart from a key that has the record in its subtree
   pub apart_above : (top : Key) (r : Record) → IsIn t r → in_subtree t top r.key ≡ true → AreApart t r.key top → ⊥
   apart_above top r i h p = not_apart r i (under r.key top r.key p (sub_trans p.second.key top r i p.over_b h))
 
   apart_by : (k b : Key) (f s : Record) (d : Key) → IsIn t f → IsIn t s → f.parent ≡ Some d → s.parent ≡ Some d → before f.name s.name ≡ true → in_subtree t f.key k ≡ true → in_subtree t s.key b ≡ true → AreApart t k b
   apart_by k b f s d i j p q o h g = record { first = f; second = s; first_in = i; second_in = j; siblings = p ∙ sym q; order = before_less f.name s.name o; over_a = h; over_b = g }
 
-  -- down to the first child: nothing more stands apart before it
+  -- a step down to the first child: the keys that are apart from it, and before it, are the same as for the
+  -- directory
   pub apart_child : (k dir : Key) (c : Record) → IsNext t dir None c → AreApart t k c.key ↔ AreApart t k dir
   apart_child k dir c n = (
     (λ p. elim (sub_up p.second.key c dir n.is_in n.parent p.over_b) [
@@ -111,14 +114,15 @@ module _ (t : Tree) (root : Key) (l : Lawful t root) where
     (λ p. under k dir c.key p (sub_trans p.second.key dir c n.is_in p.over_b (sub_parent c dir n.is_in n.parent))),
   )
 
-  -- of a child that is not above a sibling, what is below it is apart before the sibling, or below the sibling
+  -- what is in the subtree of a sibling whose name is not later is apart from the record, and before it, or
+  -- is in the record's own subtree
   apart_beside : (k : Key) (c r : Record) (d : Key) → IsIn t c → IsIn t r → c.parent ≡ Some d → r.parent ≡ Some d → before r.name c.name ≡ false → in_subtree t c.key k ≡ true → AreApart t k r.key ⊎ (in_subtree t r.key k ≡ true)
   apart_beside k c r d i j p q n h = elim (before c.name r.name) as (λ v. before c.name r.name ≡ v → AreApart t k r.key ⊎ (in_subtree t r.key k ≡ true)) [
     | true ↦ λ e. inl (apart_by k r.key c r d i j p q e h (sub_self r j))
     | false ↦ λ e. inr (ap (λ x. in_subtree t x k) (l.siblings r c j i (q ∙ sym p) (before_ties r.name c.name n e)) ∙ h)
   ] refl
 
-  -- on to the next sibling: the subtree that is left behind comes to what stands apart before
+  -- a step on to the next sibling: the subtree that is left behind joins the keys that are apart and before
   pub apart_sibling : (k d : Key) (r s : Record) → IsIn t r → r.parent ≡ Some d → IsNext t d (Some r.name) s → AreApart t k s.key ↔ (AreApart t k r.key ⊎ (in_subtree t r.key k ≡ true))
   apart_sibling k d r s i q n = (
     (λ p. elim (sub_up p.second.key s d n.is_in n.parent p.over_b) [
@@ -142,7 +146,8 @@ module _ (t : Tree) (root : Key) (l : Lawful t root) where
     ]),
   )
 
-  -- up from the last sibling: all that is below the directory is left behind
+  -- a step up from the last sibling: what comes before the directory in post-order is what was apart from the
+  -- sibling, and before it, and the sibling's subtree
   pub before_parent : (k r : Record) (d : Key) → IsIn t k → IsIn t r → r.parent ≡ Some d → ((s : Record) → IsIn t s → s.parent ≡ Some d → before r.name s.name ≡ false) →
       StandsBefore t k.key d ↔ (AreApart t k.key r.key ⊎ (in_subtree t r.key k.key ≡ true))
   before_parent k r d j i q none = (

@@ -74,7 +74,7 @@ module _ (t : Tree) (in_place : InPlace t) (r : Record) (is_in : IsIn t r) where
         behind k q ks ((members q).1 (sym (ap is_some (find_cleared t r q is_in other)) ∙ h)) (λ e. other (e ∙ sym same)))),
   )
 
--- a sum over the keys of all records is the sum over the slots
+-- a sum over the keys of all records is the same sum over the slots
 module _ (f : Option Record → ℕ) (none : f None ≡ 0) where
   no_records : (t : Tree) → ((slot : ℕ) (r : Record) → slice_get t slot ≡ Some (Some r) → ⊥) → sum_by f t ≡ 0
   no_records [] h = refl
@@ -188,11 +188,11 @@ module _ (t : Tree) (root : Key) (l : Lawful t root) (keys : List Key) (order : 
     none_long _ (let h = hides in omega (arith, h, none)),
   )
 
--- the root is linked
+-- at least one record is linked: the root's
 pub root_counted : (t : Tree) (root : Key) → Lawful t root → 1 ≤ linked_count t
 root_counted t root l = (let c = count_some t root.slot (root_record root) l.rooted in omega (arith, c))
 
--- ---- of a state
+-- ---- for a state
 
 module _ (s : TreeLog) (capacity owed linked : ℕ) (sound : IsSound s capacity owed) (counted : linked ≡ linked_count s.tree) where
   pub one_at_least : 1 ≤ linked

@@ -1,4 +1,4 @@
--- Commands of keys, one key after another.
+-- The commands of each key of a list, one key after another.
 use Rattle.std.proofs.Common.{◌≡◌, ℕ, ◌+◌, ◌<◌, refl, ap, sym, ◌∙◌, List, [], ◌∷◌, ◌++◌, length, take, get_or, append_assoc}
 use Rattle.std.proofs.lemmas.List.{take_more, append-nil}
 use Rattle.kf_core.specs.declared.key.Key.{Key}
@@ -30,7 +30,7 @@ all_collected t keys a b c none first second third order ka kb kc empty x y z = 
       ∙ ap (λ ks. collected (create_of t) keys ++ (collected (doom_of t) keys ++ collected (hide_of t) ks)) kc,
 )
 
--- if there is nothing to doom or hide, the creations are all
+-- if there is nothing to doom or hide, the creations are the whole canonical list
 pub only_created : (t : Tree) (keys a : List Key) (none first : List Command) → IsPreOrder t keys → a ≡ keys → none ≡ [] → first ≡ none ++ collected (create_of t) a →
     (collected (doom_of t) keys ≡ []) × (collected (hide_of t) keys ≡ []) → IsCanonical t first
 only_created t keys a none first order ka empty x nothing = (

@@ -1,4 +1,4 @@
--- A tree stays lawful when a record comes.
+-- A tree stays lawful when a record is added.
 use Rattle.std.proofs.Common.{◌≡◌, ◌≢◌, ◌⊎◌, inl, inr, ℕ, suc, ap, arith, subst, sym, ◌∙◌, Bool, true, false, List, slice_set}
 use Rattle.std.specs.Prelude.{None, Some, slice_get}
 use Rattle.std.proofs.lemmas.Option.{same_Some, none-some, slice_get_within}

@@ -1,4 +1,4 @@
--- Keys of which none is twice in a list, and how many of them a tree can have.
+-- Lists in which no key comes twice, and how many keys of a tree such a list can have.
 use Rattle.std.proofs.Common.{◌≡◌, inl, inr, ℕ, suc, ◌≤◌, refl, ap, arith, ◌∙◌, subst, List, [], ◌∷◌, length, slice_set}
 use Rattle.std.specs.Prelude.{None, Some, is_some, IsTrue, Contains, AllPairs, slice_get, count_by}
 use Rattle.std.proofs.lemmas.Option.{none-some}
@@ -30,7 +30,7 @@ module _ (t : Tree) (in_place : InPlace t) (r : Record) (is_in : IsIn t r) where
   pub left_in_place : InPlace left
   left_in_place slot s e = elim (after_write t r.key.slot slot None (Some s) e) [ inl p ↦ absurd (none-some s p.1) | inr p ↦ in_place slot s p.1 ]
 
--- linked keys of which none is there twice are at most as many as the records
+-- a list of linked keys in which none comes twice has at most as many keys as there are records
 pub few_keys : (keys : List Key) (t : Tree) → InPlace t → Distinct keys → ((k : Key) → Contains keys k → IsTrue (is_linked t k)) → length keys ≤ count_by is_some t
 few_keys [] t in_place distinct linked = omega arith
 few_keys (k ∷ ks) t in_place distinct linked =

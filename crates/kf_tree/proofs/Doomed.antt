@@ -1,4 +1,4 @@
--- How many records are doomed or hidden, after each change.
+-- How many records are doomed or hidden after each change.
 use Rattle.std.proofs.Common.{◌≡◌, inl, inr, ℕ, zero, suc, ◌+◌, ◌≤◌, refl, ap, arith, sym, ◌∙◌, true, false, cond, not, List, [], ◌∷◌, slice_set, replicate}
 use Rattle.std.specs.Prelude.{Option, None, Some, slice_get, map, fold}
 use Rattle.std.specs.Option.{option_map, option_and_then}
@@ -28,7 +28,7 @@ module _ (g : Record → Record) (same : (r : Record) → (g r).hidden ≡ r.hid
   hidden_on n (None ∷ t) = hidden_on (n + 0) t
   hidden_on n (Some r ∷ t) = ap (λ b. fold (λ a x. a + cond (is_hidden_record x) 1 0) (n + cond {A = ℕ} b 1 0) (map (option_map g) t)) (same r) ∙ hidden_on (n + cond (r.hidden) 1 0) t
 
-  -- a change of every record that leaves whether it is hidden
+  -- if a change to every record keeps whether the record is hidden, as many records are hidden as before
   pub hidden_mapped : (t : Tree) → hidden_count (map (option_map g) t) ≡ hidden_count t
   hidden_mapped t = hidden_on 0 t
 
@@ -45,11 +45,11 @@ module _ (g : Record → Record) (same : (r : Record) → (g r).marks.doomed ≡
   doomed_on n (None ∷ t) = doomed_on (n + 0) t
   doomed_on n (Some r ∷ t) = ap (λ b. fold (λ a x. a + cond (is_doomed_record x) 1 0) (n + cond {A = ℕ} b 1 0) (map (option_map g) t)) (same r) ∙ doomed_on (n + cond (r.marks.doomed) 1 0) t
 
-  -- a change of every record that leaves whether it is doomed
+  -- if a change to every record keeps whether the record is doomed, as many records are doomed as before
   pub doomed_mapped : (t : Tree) → doomed_count (map (option_map g) t) ≡ doomed_count t
   doomed_mapped t = doomed_on 0 t
 
--- dooming the record of one slot counts it, if it was not doomed
+-- dooming the record of one slot raises the count by one if the record was not doomed
 pub doomed_changed : (t : Tree) (slot : ℕ) → doomed_count (with_changed_slot doomed_record t slot) ≡ doomed_count t + cond (is_undoomed (slice_get t slot)) 1 0
 doomed_changed t slot = go (slice_get t slot) refl
   where
@@ -67,7 +67,8 @@ doomed_changed t slot = go (slice_get t slot) refl
           | false ↦ λ e. omega (arith, e)
         ] d)
 
--- dooming the records of some keys counts at most as many as are not doomed before
+-- dooming the records of some keys raises the count by at most the number of keys whose records were not
+-- doomed
 pub doomed_at_most : (keys : List Key) (t : Tree) → doomed_count (with_changed_slots doomed_record t keys) ≤ doomed_count t + undoomed_count t keys
 doomed_at_most [] t = omega arith
 doomed_at_most (key ∷ keys) t =

@@ -1,4 +1,4 @@
--- The names from a base down to a target.
+-- The names on the way down from a base to a target lead a walk to it.
 use Rattle.std.proofs.Common.{◌≡◌, ◌≢◌, ◌⊎◌, inl, inr, ℕ, refl, ap, sym, ◌∙◌, cond, List, [], ◌∷◌, ◌++◌}
 use Rattle.std.specs.Prelude.{None, Some, Ok, Err, map, reverse, IsTrue}
 use Rattle.std.specs.Option.{option_map_or}
@@ -29,13 +29,13 @@ found_child t root l key dir h =
 pub names_up : (t : Tree) (keys : List Key) (key : Key) → reverse (map (name_at t) (keys ++ key ∷ [])) ≡ name_at t key ∷ reverse (map (name_at t) keys)
 names_up t keys key = ap reverse (map-append (name_at t) keys (key ∷ [])) ∙ reverse-append (map (name_at t) keys) (name_at t key ∷ [])
 
--- one name more leads on from one directory higher
+-- one more name in front leads to the same target from one directory higher
 pub walk_higher : (t : Tree) (root : Key) → Lawful t root → (key dir target : Key) (keys : List Key) → parent_of t key ≡ Some dir → walk t key (reverse (map (name_at t) keys)) ≡ Ok target →
     walk t dir (reverse (map (name_at t) (keys ++ key ∷ []))) ≡ Ok target
 walk_higher t root l key dir target keys h w =
     ap (walk t dir) (names_up t keys key) ∙ ap (λ r. and_then r (λ next. walk t next (reverse (map (name_at t) keys)))) (found_child t root l key dir h) ∙ w
 
--- the first key of the way leads from above the target to it
+-- the target's own name leads to it from the directory above it
 pub first_lead : (t : Tree) (root : Key) → Lawful t root → (target other : Key) → IsTrue (is_linked t target) → (parent_of t target ≡ Some other) ⊎ ((parent_of t target ≡ None) × (other ≡ root)) → target ≢ other →
     walk t other (reverse (map (name_at t) (target ∷ []))) ≡ Ok target
 first_lead t root l target other h (inl p) n = walk_higher t root l target other target [] p refl

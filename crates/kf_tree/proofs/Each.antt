@@ -1,4 +1,4 @@
--- A change of each record of a subtree, key by key.
+-- A change to each record of a subtree, made key by key, is one change to all of them.
 use Rattle.std.proofs.Common.{◌≡◌, ◌≢◌, ◌⊎◌, inl, inr, ℕ, zero, suc, ◌<◌, refl, ap, arith, sym, ◌∙◌, subst, true, false, cond, List, [], ◌∷◌, length}
 use Rattle.std.specs.Prelude.{Option, None, Some, slice_get, is_some, map, Contains, slice_index_or, ◌&&◌, not}
 use Rattle.std.specs.Option.{option_map}
@@ -25,7 +25,7 @@ list_same [] (y ∷ ys) h = absurd (none-some y (h 0))
 list_same (x ∷ xs) [] h = absurd (none-some x (sym (h 0)))
 list_same (x ∷ xs) (y ∷ ys) h = (let tail = list_same xs ys (λ j. h (suc j)) in ap (λ z. z ∷ xs) (same_Some x y (h 0)) ∙ ap (λ zs. y ∷ zs) tail)
 
--- the key is in the list, or no key of the list has this slot, if each key with the slot is that key
+-- some key of the list has this slot, or no key of the list has it
 slot_listed : (keys : List Key) (j : ℕ) → ((k : Key) × Contains keys k × (k.slot ≡ j)) ⊎ ((k : Key) → Contains keys k → k.slot ≢ j)
 slot_listed [] j = inr (λ k h e. omega (arith, h.1))
 slot_listed (x ∷ xs) j = elim (eqb_tells x.slot j) [
@@ -68,7 +68,7 @@ module _ (f : Record → Record) (twice : (r : Record) → f (f r) ≡ f r) wher
   abbrev chosen : Tree → Key → Record → Record
   chosen t top r = cond (in_subtree t top r.key) (f r) r
 
-  -- key by key over the subtree, or all at once
+  -- a change made key by key over the subtree is the change made all at once
   pub each_is : (t : Tree) (root top : Key) (keys : List Key) → Lawful t root → IsPostOrder t top keys → with_changed_slots f t keys ≡ map (option_map (chosen t top)) t
   each_is t root top keys l p = list_same _ _ (λ j. go j (slice_get t j) refl ∙ sym (slice_get-map (option_map (chosen t top)) t j))
     where
@@ -121,7 +121,7 @@ each_risen t root top keys l p = each_is activated_unless_doomed risen_twice t r
     go (Some None) = refl
     go (Some (Some r)) = ap (λ x. Some (Some x)) (same r)
 
--- one record changed, by its slot or by its key
+-- changing one record by its slot is the same as changing it by its key
 pub slot_changed : (g : Record → Record) (t : Tree) (root key : Key) (r : Record) → Lawful t root → record_at t key ≡ Some r → with_changed_slot g t key.slot ≡ change (λ s. same_key s.key key) g t
 slot_changed g t root key r l known = list_same _ _ (λ j. elim (eqb_tells key.slot j) [
   | inl e ↦ (let at : slice_get t j ≡ Some (Some r) = ap (slice_get t) (sym e.1 ∙ ap (λ (k : Key). k.slot) (sym f.1)) ∙ f.0 in

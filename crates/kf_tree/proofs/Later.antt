@@ -1,4 +1,4 @@
--- The later siblings that a walk takes with it.
+-- The later siblings that a walk carries along.
 use Rattle.std.proofs.Common.{◌≡◌, ℕ, ap, sym, ◌∙◌, subst, List, ◌∷◌}
 use Rattle.std.specs.Prelude.{Option, None, Some}
 use Rattle.std.proofs.lemmas.Option.{same_Some, none-some}
@@ -9,7 +9,7 @@ use Rattle.kf_core.proofs.FoundRecords.{found_in, same_record}
 use Rattle.kf_table.specs.Next.{AreNext}
 use Rattle.kf_tree.specs.Orders.{AreLater}
 
--- behind the first of what is listed stand its later siblings
+-- the entries after the first one of a listing are its later siblings
 pub later_listed : (t : Tree) (dir : Key) (bound : Option (List ℕ)) (entry : List ℕ × Key) (later : List (List ℕ × Key)) → AreNext t dir bound (entry ∷ later)
     → AreLater t entry.1 later
 unfolding AreNext
@@ -21,7 +21,7 @@ later_listed t dir bound entry later listed = λ r d known parent.
     let named : r.name ≡ entry.0 = ap (λ (x : Record). x.name) same ∙ c.2 in
     subst (λ k. AreNext t k (Some r.name) later) (sym there) (subst (λ n. AreNext t dir (Some n) later) (sym named) listed.1))
 
--- a search above the name of a record lists its later siblings
+-- a search above a record's name lists its later siblings
 pub later_found : (t : Tree) (key : Key) (s : Record) (dir : Key) (bytes : List ℕ) (later : List (List ℕ × Key)) → Some s ≡ record_at t key → s.parent ≡ Some dir → bytes ≡ s.name
     → AreNext t dir (Some bytes) later → AreLater t key later
 later_found t key s dir bytes later known parent named listed = λ r d at p.
@@ -30,7 +30,7 @@ later_found t key s dir bytes later known parent named listed = λ r d at p.
     let name : bytes ≡ r.name = named ∙ ap (λ (x : Record). x.name) same in
     subst (λ k. AreNext t k (Some r.name) later) there (subst (λ n. AreNext t dir (Some n) later) name listed))
 
--- what is not linked, and what is in no directory, has none
+-- any list will do for a key that is not linked, or is in no directory
 pub later_unlinked : (t : Tree) (key : Key) (later : List (List ℕ × Key)) → None ≡ record_at t key → AreLater t key later
 later_unlinked t key later gone = λ r d at p. absurd (none-some r (gone ∙ at))
 

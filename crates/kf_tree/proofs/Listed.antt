@@ -1,4 +1,4 @@
--- The names of live children, child by child.
+-- The names of live children are listed child by child.
 use Rattle.std.proofs.Common.{◌≡◌, ◌⊎◌, inl, inr, ℕ, zero, suc, ◌+◌, ◌<◌, ◌≤◌, refl, ap, arith, sym, ◌∙◌, subst, Bool, true, false, cond, List, [], ◌∷◌, ◌++◌, length, length-append, append_assoc, append-nil, ◌-◌, take, lit<}
 use Rattle.std.specs.Prelude.{Option, None, Some, slice_get, All, AllPairs, Contains, ◌&&◌, IsTrue, IsSomeAnd}
 use Rattle.std.specs.List.{find as first}
@@ -22,7 +22,7 @@ use Rattle.kf_table.proofs.ChildTests.{some_first, is_key_self, both, key_is}
 use Rattle.kf_tree.proofs.Next.{before_less, less_before, before_not_self, before_trans, before_ties}
 use Rattle.kf_tree.proofs.PostOrder.{pairs_append, still_not, is_before}
 
--- where a list's first item that passes stands
+-- the first item of a list that passes a test has a place there
 first_place : {X : Type 0} (p : X → Bool) (xs : List X) (y : X) → first p xs ≡ Some y → (i : ℕ) × (slice_get xs i ≡ Some y) × (p y ≡ true)
 first_place p [] y h = absurd (none-some y h)
 first_place p (x ∷ xs) y h = elim (p x) as (λ b. p x ≡ b → cond b (Some x) (first p xs) ≡ Some y → (i : ℕ) × (slice_get (x ∷ xs) i ≡ Some y) × (p y ≡ true)) [
@@ -171,7 +171,7 @@ listing_whole t root dir l after bound limit names none f = record {
       inl (f.all name h (ap (above bound) (sym r.4) ∙ none r.0 r.2 r.3)));
 }
 
--- what is listed when this many children are left
+-- what has been listed when these children are left
 pub record IsListedSoFar (t : Tree) (dir : Key) (after : Option (List ℕ)) (limit : ℕ) (names : List (List ℕ)) (later : List (List ℕ × Key)) : Type 0 where
   pub bound : Option (List ℕ)
   pub so_far : IsListedTo t dir after bound limit names
@@ -197,7 +197,7 @@ pub listed_all : (t : Tree) (root dir : Key) → Lawful t root → (after : Opti
 unfolding AreNext
 listed_all t root dir l after limit names f = listing_whole t root dir l after f.bound limit names f.left f.so_far
 
--- a live child comes next, if one more may come
+-- a live child's name comes next if the limit allows one more
 pub live_next : (t : Tree) (limit less : ℕ) (entry : List ℕ × Key) (later : List (List ℕ × Key)) → limit ≡ less + 1 → live_in t entry.1 ≡ true
     → take limit (live_names t (entry ∷ later)) ≡ entry.0 ∷ take less (live_names t later)
 unfolding live_names
@@ -213,7 +213,7 @@ unfolding live_names
 live_of_none t zero = refl
 live_of_none t (suc n) = refl
 
--- the names so far and those of the live children that are left
+-- the names so far, and those of the live children that are left, make up the listing
 listing_on : (t : Tree) (root dir : Key) → Lawful t root → (after : Option (List ℕ)) (limit n : ℕ) (names : List (List ℕ)) (later : List (List ℕ × Key)) → n ≡ limit - length names
     → IsListedSoFar t dir after limit names later → IsListing t dir after limit (names ++ take n (live_names t later))
 unfolding live_names

@@ -1,4 +1,4 @@
--- What keys and names find in a tree of which only the live records are shown.
+-- What keys and names find in a tree if all its records are shown, or only the live ones.
 use Rattle.std.proofs.Common.{◌≡◌, ℕ, zero, suc, refl, ap, arith, sym, ◌∙◌, Bool, true, false, cond, List, [], ◌∷◌, Bor}
 use Rattle.std.specs.Prelude.{Option, None, Some, IfSome, Result, Ok, Err, slice_get, map}
 use Rattle.std.specs.List.{find as first}
@@ -20,7 +20,7 @@ use Rattle.kf_tree.specs.Shown.{shown, shown_record}
 use Rattle.kf_core.proofs.FoundRecords.{in_found, found_in}
 use Rattle.kf_table.proofs.ChildTests.{both, key_is}
 
--- a record that is shown is the record itself
+-- if a record is shown, what is shown is the record itself
 pub shown_same : (live_only : Bool) (r s : Record) → Some s ≡ shown_record live_only (Some r) → s ≡ r
 shown_same false r s h = same_Some s r h
 shown_same true r s h = elim (lives r) as (λ b. Some s ≡ cond b (Some r) None → s ≡ r) [
@@ -32,7 +32,7 @@ shown_at : (live_only : Bool) (t : Tree) (r : Record) → IsIn t r → slice_get
 shown_at false t r is = is
 shown_at true t r is = slice_get-map only_live t r.key.slot ∙ ap (option_map only_live) is
 
--- a record of the tree that is shown is one of the tree
+-- a record in the shown tree is a record of the tree
 pub shown_in : (live_only : Bool) (t : Tree) (r : Record) → IsIn (shown live_only t) r → IsIn t r
 shown_in false t r is = is
 shown_in true t r is = go (slice_get t r.key.slot) (sym (slice_get-map only_live t r.key.slot) ∙ is)
@@ -42,13 +42,13 @@ shown_in true t r is = go (slice_get t r.key.slot) (sym (slice_get-map only_live
     go (Some None) h = absurd (none-some r (same_Some None (Some r) h))
     go (Some (Some s)) h = ap (λ x. Some (Some x)) (sym (shown_same true s r (sym (same_Some (only_live (Some s)) (Some r) h))))
 
--- a record of the tree that is shown stands in what is shown
+-- if a record of the tree is shown, it is in the shown tree
 pub in_shown : (live_only : Bool) (t : Tree) (r s : Record) → IsIn t r → Some s ≡ shown_record live_only (Some r) → IsIn (shown live_only t) s
 in_shown live_only t r s is e =
     let same = shown_same live_only r s e in
     ap (λ (x : Record). slice_get (shown live_only t) x.key.slot) same ∙ shown_at live_only t r is ∙ ap Some (sym e)
 
--- what is shown of a record that was found, if any
+-- if a record that was found is shown, it is in the shown tree
 pub met_in : (live_only : Bool) (t : Tree) (o : Option (Bor Record)) (s : Record) → IfSome o (λ r. IsIn t r.now) → Some s ≡ shown_record live_only (option_copied o) → IsIn (shown live_only t) s
 met_in live_only t (Some r) s is e = in_shown live_only t r.now s is e
 met_in true t None s is e = absurd (none-some s (sym e))
@@ -59,7 +59,7 @@ pub root_in : (live_only : Bool) (t : Tree) (root : Key) → Lawful t root → I
 root_in false t root l = l.rooted
 root_in true t root l = in_shown true t (root_record root) (root_record root) l.rooted refl
 
--- the record of a key, if it is shown
+-- what a key finds in the shown tree is the key's record, if that is shown
 pub record_shown : (live_only : Bool) (t : Tree) (k : Key) → record_at (shown live_only t) k ≡ shown_record live_only (record_at t k)
 record_shown false t k = refl
 record_shown true t k = ap (λ o. option_and_then (with_key k) o) (slice_get-map only_live t k.slot) ∙ go (slice_get t k.slot)
@@ -75,7 +75,7 @@ record_shown true t k = ap (λ o. option_and_then (with_key k) o) (slice_get-map
     go (Some None) = refl
     go (Some (Some r)) = live r
 
--- the record that a key finds has the key
+-- the record that a key finds has that key
 pub shown_key : (live_only : Bool) (t : Tree) (dir : Key) (r : Record) → Some r ≡ shown_record live_only (record_at t dir) → r.key ≡ dir
 shown_key live_only t dir r e = (found_in (shown live_only t) dir r (record_shown live_only t dir ∙ sym e)).1
 
@@ -86,7 +86,7 @@ module _ (dir : Key) (test : Record → Bool) where
   abbrev NonePasses : Tree → Type 0
   NonePasses t = (j : ℕ) (s : Record) → slice_get t j ≡ Some (Some s) → passes (Some s) ≡ true → ⊥
 
-  -- no two slots have records that pass
+  -- no two slots have records that pass the test
   abbrev OnePasses : Tree → Type 0
   OnePasses t = (i j : ℕ) (r s : Record) → slice_get t i ≡ Some (Some r) → slice_get t j ≡ Some (Some s) → passes (Some r) ≡ true → passes (Some s) ≡ true → i ≡ j
 
@@ -127,7 +127,7 @@ module _ (dir : Key) (test : Record → Bool) where
       zero_suc : (j : ℕ) → zero ≡ suc j → ⊥
       zero_suc j e = omega (arith, e)
 
--- the child of a name, if it is shown
+-- what a name finds in the shown tree is the child of that name, if it is shown
 pub child_shown : (live_only : Bool) (t : Tree) (root dir : Key) (name : List ℕ) → Lawful t root → child (shown live_only t) dir name ≡ shown_record live_only (child t dir name)
 child_shown false t root dir name l = refl
 child_shown true t root dir name l = first_live dir (λ (r : Record). bytes_eq r.name name) t (λ i j r s e f p q.
@@ -140,12 +140,12 @@ child_shown true t root dir name l = first_live dir (λ (r : Record). bytes_eq r
     ((bytes_eq-Decides r.name name).0 pr.1 ∙ sym ((bytes_eq-Decides s.name name).0 ps.1)) in
     sym at_r ∙ ap (λ (k : Key). k.slot) key ∙ at_s))
 
--- nothing is shown of no record
+-- if there is no record, nothing is shown
 nothing_shown : (live_only : Bool) → None ≡ shown_record live_only None
 nothing_shown false = refl
 nothing_shown true = refl
 
--- what a name leads to from a directory, whose record is shown
+-- what a name leads to from a directory whose record is shown
 module _ (live_only : Bool) (t : Tree) (root : Key) (name : List ℕ) (l : Lawful t root) (dir : Record)
     (is : IsIn (shown live_only t) dir) (at : Key) (keyed : dir.key ≡ at) where
   abbrev in_dir : Option Record → Result Key Refusal

@@ -1,4 +1,4 @@
--- Changes of several keys' marks, one after the other.
+-- Changes to the marks of several keys, made one after another.
 use Rattle.std.proofs.Common.{◌≡◌, inl, inr, refl, ap, sym, ◌∙◌, subst, Bool, true, false, cond, List, [], ◌∷◌, ◌++◌}
 use Rattle.std.specs.Prelude.{Option, None, Some, is_some, ◌||◌, ◌&&◌, not}
 use Rattle.std.specs.Option.{option_map}
@@ -10,7 +10,7 @@ use Rattle.kf_core.proofs.Climbs.{keys_tell}
 use Rattle.kf_tree.specs.SlotMarks.{marks_at, contains_key, doomed_if, risen_if, Changed}
 use Rattle.kf_tree.proofs.SlotWrites.{written, marks_written, alone_linked}
 
--- a list with one key more
+-- whether a list with one more key has a key
 pub contains_more : (keys : List Key) (x k : Key) → contains_key (keys ++ x ∷ []) k ≡ (contains_key keys k || same_key x k)
 contains_more [] x k = go (same_key x k)
   where
@@ -23,7 +23,8 @@ contains_more (y ∷ ys) x k = ap (λ b. same_key y k || b) (contains_more ys x 
     go true b c = refl
     go false b c = refl
 
--- a change that may be made twice, and that may be none
+-- a change that leaves the marks of a key that it does not choose; two such changes are one, which chooses
+-- the key if either of them does
 pub record IsMarking (f : Bool → NodeFlags → NodeFlags) : Type 0 where
   pub none : (m : NodeFlags) → f false m ≡ m
   pub twice : (a b : Bool) (m : NodeFlags) → f b (f a m) ≡ f (a || b) m
@@ -74,7 +75,7 @@ module _ (f : Bool → NodeFlags → NodeFlags) (marking : IsMarking f) where
       go None e = e
       go (Some m) e = refl
 
-  -- one write of the marks that the change makes
+  -- writing the changed marks of one key makes the change for that key only
   pub changed_one : (slots : List SlotState) (key : Key) (m : NodeFlags) → marks_at slots key ≡ Some m → Changed f (key ∷ []) slots (written slots key (Some (f true m)))
   changed_one slots key m h k = marks_written slots key k (Some (f true m)) (alone_linked slots key m h) ∙ elim (keys_tell key k) [
     | inl e ↦ ap (λ b. cond b (Some (f true m)) (marks_at slots k)) e.0 ∙ sym (ap (λ b. option_map (f (b || false)) (marks_at slots k)) e.0 ∙ ap (option_map (f true)) (subst (λ x. marks_at slots x ≡ Some m) e.1 h))

@@ -1,4 +1,4 @@
--- A tree stays lawful where marks change, as long as what is in a doomed directory is doomed.
+-- A tree stays lawful when marks change, as long as everything in a doomed directory is doomed.
 use Rattle.std.proofs.Common.{◌≡◌, ◌≢◌, ℕ, zero, suc, refl, ap, arith, subst, sym, ◌∙◌, Bool, true, false, cond}
 use Rattle.std.specs.Prelude.{Option, None, Some, slice_get, ◌&&◌, not}
 use Rattle.std.specs.Option.{option_map, option_and_then}
@@ -16,7 +16,7 @@ use Rattle.kf_core.proofs.Lists.{count_mapped}
 use Rattle.kf_core.proofs.FoundRecords.{found_in, parent_known, subtree_to, subtree_from}
 use Rattle.kf_core.proofs.Mapped.{mapped, from_slot, mapped_from, mapped_to, find_mapped}
 
--- a change of a record that leaves all but its marks
+-- a change to a record that keeps its key, parent, name and node
 pub record KeepsPlace (g : Record → Record) : Type 0 where
   pub key : (r : Record) → (g r).key ≡ r.key
   pub parent : (r : Record) → (g r).parent ≡ r.parent
@@ -65,7 +65,7 @@ module _ (t : Tree) (g : Record → Record) (k : KeepsPlace g) where
           ));
     }
 
--- a change of the chosen records
+-- the record, changed if it is chosen
 abbrev where_chosen : (Record → Bool) → (Record → Record) → Record → Record
 where_chosen chosen f r = cond (chosen r) (f r) r
 
@@ -130,7 +130,7 @@ module _ (t : Tree) (root : Key) (l : Lawful t root) (key : Key) where
         ] refl e)
       ] refl
 
-  -- one record hidden or shown, if that leaves the root's
+  -- the tree stays lawful when one record is hidden or shown, if that leaves the root's record as it was
   pub lawful_hidden : (b : Bool) → cond (same_key root key) (hidden_record b (root_record root)) (root_record root) ≡ root_record root →
       Lawful (change (λ r. same_key r.key key) (hidden_record b) t) root
   lawful_hidden b root_same = lawful_mapped t (where_chosen (λ r. same_key r.key key) (hidden_record b)) (keeps_where (λ r. same_key r.key key) (hidden_record b) (keeps_hidden b)) root l

@@ -36,7 +36,7 @@ before_ties a b h g = (bytes_eq-Decides a b).0 (sym (is_eq-slice_cmp a b) ∙ go
     go Equal e = ap is_eq e
     go Greater e = absurd (let x : true ≡ false = sym (less_before b a (nat_list_cmp_total.antisymm b a ∙ ap ordering_reverse e)) ∙ g in cc)
 
--- what is not before something that is not before a third is not before the third
+-- if a first name is not before a second, nor the second before a third, the first is not before the third
 pub before_skip : (a b c : List ℕ) → before a b ≡ false → before b c ≡ false → before a c ≡ false
 before_skip a b c h g = elim (before a c) as (λ v. before a c ≡ v → v ≡ false) [
   | true ↦ λ e. elim (before b a) as (λ v. before b a ≡ v → true ≡ false) [

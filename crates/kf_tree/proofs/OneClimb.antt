@@ -1,5 +1,5 @@
--- The way up from a directory to the first one that is over a target, with a second way up from the target
--- beside it.
+-- The way up from a directory to the first one that is over a target, climbed together with a second way up,
+-- from the target.
 use Rattle.std.proofs.Common.{◌≡◌, ◌≢◌, ◌⊎◌, inl, inr, ℕ, zero, suc, ◌+◌, ◌-◌, ◌<◌, ◌≤◌, refl, ap, arith, sym, ◌∙◌, subst, true, List, [], ◌∷◌, ◌++◌, length, length-append, get_or, append-nil, rules, Option}
 use Rattle.std.specs.Prelude.{None, Some, is_some, IsTrue}
 use Rattle.std.specs.Option.{option_and_then, option_to_list}
@@ -20,8 +20,8 @@ use Rattle.kf_tree.proofs.Over.{one_more, parent_linked}
 abbrev pub IsDeep : Tree → Key → ℕ → Key → Type 0
 IsDeep t root depth key = ancestor t depth key ≡ Some root
 
--- beside the base is a directory over the target, over which stands all that is over the base and over the
--- target
+-- the other directory is over the target, and what is over the target and has the base in its subtree has the
+-- other in its subtree too; base and other are this many steps below the root
 pub record IsBeside (t : Tree) (root target base other : Key) (base_depth other_depth : ℕ) : Type 0 where
   pub linked : IsTrue (is_linked t other)
   pub over : IsOver t root target other
@@ -29,25 +29,25 @@ pub record IsBeside (t : Tree) (root target base other : Key) (base_depth other_
   pub base_deep : IsDeep t root base_depth base
   pub other_deep : IsDeep t root other_depth other
 
--- the current key is this many steps above the key
+-- the current key is linked, and it is this many steps above the key
 pub record IsCounted (t : Tree) (key current : Key) (steps : ℕ) : Type 0 where
   pub linked : IsTrue (is_linked t current)
   pub met : ancestor t steps key ≡ Some current
 
--- the key stands on the way at the place with this many others above it
+-- the key is on the way, and this many keys of the way are above it
 abbrev pub StandsAt : List Key → ℕ → Key → Type 0
 StandsAt way depth key = (depth < length way) × ((d : Key) → get_or way (length way - 1 - depth) d ≡ key)
 
--- the first keys of a way up
+-- the way is this many keys: the key itself, then one step up after another
 abbrev pub IsWayTo : Tree → Key → List Key → ℕ → Type 0
 IsWayTo t key way steps = (length way ≡ steps) × ((i : ℕ) (d : Key) → i < length way → ancestor t i key ≡ Some (get_or way i d))
 
--- a way up before its next key is pushed, or the whole of it if none is left
+-- the way up before its next key is pushed, or the whole way if no key is left
 abbrev pub IsWayBefore : Tree → Key → Key → List Key → Option Key → Type 0
 IsWayBefore t root key way None = IsWayUp t root key way
 IsWayBefore t root key way (Some current) = IsCounted t key current (length way) × IsWayTo t key way (length way)
 
--- at most this many keys of a way up are left
+-- the most keys of a way up that can still be left
 abbrev pub still_up : Tree → List Key → Option Key → ℕ
 still_up t way None = 0
 still_up t way (Some _) = length t - length way
@@ -59,7 +59,7 @@ module _ (t : Tree) (root : Key) (l : Lawful t root) where
   pub under_root : (key : Key) → IsTrue (is_linked t key) → in_subtree t root key ≡ true
   under_root key h = (let r = linked_here t key h in let w = root_met t root l r.0 r.1 in ap (in_subtree t root) (sym r.2) ∙ subtree_from t root l r.0 w.0 root r.1 w.1)
 
-  -- what is over a key and no higher up is the key
+  -- a key in the subtree of another, and no deeper than it, is that other key
   no_higher : (a k : Key) (da dk : ℕ) → in_subtree t a k ≡ true → IsDeep t root da a → IsDeep t root dk k → dk ≤ da → k ≡ a
   no_higher a k da dk h at bt le = (let s = subtree_to t root l a k h in go s.0 s.1)
     where
@@ -67,13 +67,13 @@ module _ (t : Tree) (root : Key) (l : Lawful t root) where
       go zero c = same_Some k a c
       go (suc n) c = absurd (let e = climb_unique (parent_of t) root (root_parent t root l) (suc n + da) dk k (climb_rest (parent_of t) (suc n) da k a c ∙ at) bt in omega (arith, e, le))
 
-  -- one step up
+  -- the directory of a key is one step less deep
   pub up_deep : (key parent : Key) (depth : ℕ) → parent_of t key ≡ Some parent → IsDeep t root depth key → IsDeep t root (depth - 1) parent
   up_deep key parent zero p d = absurd (none-some parent (sym (root_parent t root l) ∙ ap (parent_of t) (sym (same_Some key root d)) ∙ p))
   up_deep key parent (suc n) p d = (let e : suc n - 1 ≡ n = omega arith in
       ap (λ m. ancestor t m parent) e ∙ sym (after_step (parent_of t) n key parent p) ∙ d)
 
-  -- two keys that differ are not both the root
+  -- of two different keys, the one that is at least as deep as the other is below the root
   pub deep : (a b : Key) (da db : ℕ) → IsDeep t root da a → IsDeep t root db b → a ≢ b → db ≤ da → 0 < da
   deep a b zero db x y n le = absurd (let z : 0 ≡ db = omega (arith, le) in n (same_Some a root x ∙ sym (same_Some b root (ap (λ m. ancestor t m b) z ∙ y))))
   deep a b (suc da) db x y n le = omega arith
@@ -102,7 +102,7 @@ module _ (t : Tree) (root : Key) (l : Lawful t root) where
           ap (in_subtree t c) (sym r.2) ∙ subtree_from t root l r.0 a.0 c r.1 (ap (ancestor t a.0) r.2 ∙ sym (after_step (parent_of t) a.0 target other p) ∙ a.1))
       meet c (inr a) (inr e) = (let f = first_step (parent_of t) a.0 target c a.1 in absurd (none-some f.0 (sym e.0 ∙ f.1)))
 
-  -- over a child is what is over its directory
+  -- a key that has the directory in its subtree has the child in it too
   down_over : (c key parent : Key) → parent_of t key ≡ Some parent → in_subtree t c parent ≡ true → in_subtree t c key ≡ true
   down_over c key parent p h = (let s = subtree_to t root l c parent h in let r = known_parent t key parent p in
       ap (in_subtree t c) (sym r.2) ∙ subtree_from t root l r.0 (suc s.0) c r.1 (ap (ancestor t (suc s.0)) r.2 ∙ after_step (parent_of t) s.0 key parent p ∙ s.1))
@@ -116,7 +116,7 @@ module _ (t : Tree) (root : Key) (l : Lawful t root) where
     other_deep = b.other_deep;
   }
 
-  -- the base is not over the target, if it is no higher up than what is beside it
+  -- the base is not over the target if it is at least as deep as the other directory, and is not that one
   pub not_over : (target base other : Key) (base_depth other_depth : ℕ) → IsBeside t root target base other base_depth other_depth → IsTrue (is_linked t base) → base ≢ other → other_depth ≤ base_depth → IsOver t root target base → ⊥
   not_over target base other base_depth other_depth b linked n le o =
       n (sym (no_higher base other base_depth other_depth (b.meets base o (self_over base linked)) b.base_deep b.other_deep le))
@@ -162,7 +162,7 @@ module _ (t : Tree) (root : Key) (l : Lawful t root) where
   pub way_step : (a b : Key) (n : ℕ) (key : Key) → ancestor t n key ≡ Some a → ancestor t (n + 1) key ≡ Some b → parent_of t a ≡ Some b
   way_step a b n key here next = (let f = first_step (parent_of t) 0 a b (sym (climb_rest (parent_of t) n 1 key a here) ∙ next) in f.1 ∙ f.2)
 
-  -- the key that comes next is the directory of this one
+  -- the next key on the way is the directory of this one
   pub next_up : (key at next : Key) (way : List Key) (depth : ℕ) → IsWayUp t root key way → StandsAt way depth at → 0 < depth
       → ((d : Key) → next ≡ get_or way (length way - depth) d) → parent_of t at ≡ Some next
   next_up key at next way depth w stands some is =

@@ -1,4 +1,4 @@
--- There is one text of a link.
+-- A link has only one text.
 use Rattle.std.proofs.Common.{◌≡◌, inl, inr, ℕ, suc, refl, ap, sym, ◌∙◌, subst, Bool, true, false, cond, List, [], ◌∷◌, ◌++◌}
 use Rattle.std.specs.Prelude.{Option, None, Some, Result, Ok, Err}
 use Rattle.std.specs.List.{join_with_byte}
@@ -34,7 +34,7 @@ err-ok e a h = (let x : false ≡ true = ap is h in cc)
     is (Err e) = false
 
 module _ (t : Tree) (root : Key) (l : Lawful t root) where
-  -- what is found in a directory is a record there of that name
+  -- what is found by a name in a directory is a record of that name there
   found_is : (dir : Key) (name : List ℕ) (key : Key) → found t dir name ≡ Ok key → (r : Record) × (IsIn t r) × (r.key ≡ key) × (r.parent ≡ Some dir) × (r.name ≡ name)
   found_is dir name key h = in_dir (record_at t dir) h
     where
@@ -49,14 +49,14 @@ module _ (t : Tree) (root : Key) (l : Lawful t root) where
         | false ↦ λ e. absurd (err-ok NotDir key e)
       ] g
 
-  -- the first step of a walk that arrives
+  -- a walk that arrives finds its first name, and the walk over the other names arrives too
   first_found : (base : Key) (name : List ℕ) (names : List (List ℕ)) (target : Key) → walk t base (name ∷ names) ≡ Ok target → (next : Key) × (found t base name ≡ Ok next) × (walk t next names ≡ Ok target)
   first_found base name names target h = elim (found t base name) as (λ r. found t base name ≡ r → and_then r (λ next. walk t next names) ≡ Ok target → (next : Key) × (found t base name ≡ Ok next) × (walk t next names ≡ Ok target)) [
     | Ok next ↦ λ e g. (next, e, g)
     | Err refusal ↦ λ e g. absurd (err-ok refusal target g)
   ] refl h
 
-  -- a walk leads down
+  -- a walk leads down: it starts at its target, or above it
   walked_down : (names : List (List ℕ)) (base target : Key) → walk t base names ≡ Ok target → (n : ℕ) × (ancestor t n target ≡ Some base)
   walked_down [] base target h = (0, ap Some (sym (same_Ok base target h)))
   walked_down (name ∷ names) base target h =
@@ -65,7 +65,7 @@ module _ (t : Tree) (root : Key) (l : Lawful t root) where
       let w = walked_down names f.0 target f.2 in
       (suc w.0, one_more t w.0 target f.0 base w.1 (ap (parent_of t) (sym r.2) ∙ parent_known t r.0 r.1 ∙ r.3)))
 
-  -- no walk of a name or more comes back
+  -- no walk over at least one name comes back to its start
   not_back : (base : Key) (name : List ℕ) (names : List (List ℕ)) → walk t base (name ∷ names) ≡ Ok base → ⊥
   not_back base name names h =
       (let f = first_found base name names base h in
@@ -77,7 +77,7 @@ module _ (t : Tree) (root : Key) (l : Lawful t root) where
       met n r i p c = (let d = l.in_directory r base i p in let g = found_in t base d.dir d.known in
           ap (in_subtree t r.key) (sym g.1) ∙ subtree_from t root l d.dir n r.key g.0 (ap (ancestor t n) g.1 ∙ c))
 
-  -- there is one way down by names
+  -- only one list of names leads from one key down to another
   one_way : (xs ys : List (List ℕ)) (base target : Key) → walk t base xs ≡ Ok target → walk t base ys ≡ Ok target → xs ≡ ys
   one_way [] [] base target h g = refl
   one_way [] (y ∷ ys) base target h g = absurd (not_back base y ys (g ∙ sym h))

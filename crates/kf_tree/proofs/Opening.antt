@@ -1,4 +1,4 @@
--- The tree of only the root is lawful, and a lawful tree with one command more is the replay of its commands.
+-- A tree with only a root is lawful, and a lawful tree with one more command is the replay of its commands.
 use Rattle.std.proofs.Common.{◌≡◌, inl, inr, ℕ, zero, suc, ◌<◌, ◌≤◌, refl, ap, arith, sym, ◌∙◌, subst, true, false, cond, List, [], ◌∷◌, ◌++◌, length, slice_set, replicate}
 use Rattle.std.specs.Prelude.{Option, None, Some, slice_get}
 use Rattle.std.proofs.lemmas.Option.{same_Some, none-some}
@@ -22,7 +22,7 @@ use Rattle.kf_tree.proofs.Doomed.{empty_undoomed, empty_shown}
 abbrev empty_slots : ℕ → Tree
 empty_slots n = replicate n None
 
--- in empty slots there is no record
+-- there is no record in empty slots
 pub none_there : (m slot : ℕ) (r : Record) → slice_get (empty_slots m) slot ≡ Some (Some r) → ⊥
 none_there zero slot r h = none-some (Some r) h
 none_there (suc m) zero r h = none-some r (same_Some None (Some r) h)
@@ -88,11 +88,11 @@ module _ (n : ℕ) (root : Key) (within : root.slot < n) where
     ready = λ key h. absurd (none-some key h);
   }
 
-  -- the root written over this many empty slots
+  -- the root's record, written into one of this many empty slots, makes the tree with only the root
   pub root_written : (empty : Tree) (entry : Record) → empty ≡ replicate n None → entry ≡ root_record root → slice_set empty root.slot (Some entry) ≡ root_alone n root
   root_written empty entry all is = ap (λ (t : Tree). slice_set t root.slot (Some entry)) all ∙ ap (λ (r : Record). slice_set (empty_slots n) root.slot (Some r)) is
 
--- each command leaves the slots
+-- no command changes the number of slots
 pub length_after : (t : Tree) (c : Command) → length (after t c) ≡ length t
 length_after t (Create key parent name node is_live) = length_set t key.slot _
 length_after t (Activate key) = length-map t _
@@ -106,12 +106,12 @@ pub length_replay : (t : Tree) (cs : List Command) → length (replay t cs) ≡ 
 length_replay t [] = refl
 length_replay t (c ∷ cs) = length_replay (after t c) cs ∙ length_after t c
 
--- the replay of one command more
+-- the replay of one more command
 pub replay_push : (t : Tree) (cs : List Command) (c : Command) → replay t (cs ++ c ∷ []) ≡ after (replay t cs) c
 replay_push t [] c = refl
 replay_push t (d ∷ cs) c = replay_push (after t d) cs c
 
--- a command that keeps the tree lawful, and is stored, keeps the state
+-- a kept state stays kept when a command that leaves the tree lawful is stored
 pub kept_after : (s : TreeLog) (c : Command) → IsKept s → Lawful (after s.tree c) s.root → IsKept (record { root = s.root; tree = after s.tree c; commands = s.commands ++ c ∷ []; ready = None })
 kept_after s c k l = record {
   lawful = l;

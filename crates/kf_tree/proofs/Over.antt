@@ -15,8 +15,8 @@ use Rattle.kf_core.proofs.Lists.{count_less}
 use Rattle.kf_tree.proofs.PostOrder.{child_below}
 use Rattle.kf_core.proofs.FoundRecords.{known_parent, subtree_to, subtree_from}
 
--- the base is this many steps up from the directory, none of those below is over the target, and the text
--- grew by `../` for each
+-- the base is some steps up from the directory, no lower directory on the way is over the target, and the
+-- text has grown by `../` for each step
 pub record HasClimbed (t : Tree) (root dir target base : Key) (old new : List ℕ) : Type 0 where
   pub up : ℕ
   pub is_base : ancestor t up dir ≡ Some base
@@ -47,7 +47,7 @@ lt_or_eq zero (suc m) h = inl (omega arith)
 lt_or_eq (suc n) zero h = absurd (omega (arith, h))
 lt_or_eq (suc n) (suc m) h = elim (lt_or_eq n m (omega (arith, h))) [ inl l ↦ inl (omega (arith, l)) | inr e ↦ inr (ap suc e) ]
 
--- one step further up
+-- the directory of a key is one step further up
 pub one_more : (t : Tree) (n : ℕ) (k m p : Key) → ancestor t n k ≡ Some m → parent_of t m ≡ Some p → ancestor t (suc n) k ≡ Some p
 one_more t n k m p c h = (let e : suc n ≡ n + 1 = omega arith in
     ap (λ j. ancestor t j k) e ∙ climb_rest (parent_of t) n 1 k m c ∙ after_step (parent_of t) 0 m p h)

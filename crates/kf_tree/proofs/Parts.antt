@@ -18,7 +18,8 @@ none_of : (b : Bool) (n : ℕ) → None ≡ cond b (Some n) None → b ≡ false
 none_of true n e = absurd (cc)
 none_of false n e = refl
 
--- the first part, and the rest after it
+-- the first part is what comes before the first separator, and the others are the parts of what comes after
+-- it
 pub split_found : (p : ℕ → Bool) (xs : List ℕ) (at : ℕ) → Some at ≡ position p xs
     → slice_split p xs ≡ take at xs ∷ slice_split p (take (length xs - (at + 1)) (drop (at + 1) xs))
 split_found p xs at e =
@@ -27,7 +28,7 @@ split_found p xs at e =
     ∙ ap (λ k. take k xs ∷ slice_split p (drop (k + 1) xs)) same
     ∙ ap (λ l. take at xs ∷ slice_split p l) (sym (take_rest xs (at + 1)))
 
--- the whole is one part
+-- without a separator, the whole text is one part
 pub split_none : (p : ℕ → Bool) (xs : List ℕ) → None ≡ position p xs → slice_split p xs ≡ xs ∷ []
 split_none p xs e =
     let far : length xs ≤ position_or_len p xs = ltb-false _ _ (none_of _ (position_or_len p xs) e) in
@@ -54,6 +55,6 @@ is_empty-length (byte ∷ name) e = elim (eqb_tells (length (byte ∷ name)) 0) 
   | inr (is, some) ↦ absurd (let bad : true ≡ false = sym e ∙ is in cc)
 ]
 
--- the parts but the last, behind the first
+-- all parts except the last are the first part, and then all parts of the rest except its last
 pub front_is : (text name rest : List ℕ) → slice_split is_slash text ≡ name ∷ slice_split is_slash rest → front (slice_split is_slash text) ≡ name ∷ front (slice_split is_slash rest)
 front_is text name rest e = ap front e ∙ front_more is_slash name rest

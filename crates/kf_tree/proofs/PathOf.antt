@@ -1,4 +1,4 @@
--- The path of a key is a text of names from the root.
+-- The path of a key is a text of the names from the root.
 use Rattle.std.proofs.Common.{◌≡◌, inl, refl, ap, sym, ◌∙◌, subst, arith, ℕ, zero, suc, ◌<◌, List, [], ◌∷◌, ◌++◌}
 use Rattle.std.specs.Prelude.{Ok}
 use Rattle.std.specs.List.{join_with_byte}
@@ -10,7 +10,7 @@ use Rattle.kf_tree.specs.Paths.{walk}
 use Rattle.kf_tree.specs.Links.{ups}
 use Rattle.kf_tree.specs.Ways.{HasUps, IsPathOf}
 
--- from the root up to the root there is no step
+-- a climb from the root to the root takes no step
 no_ups : (t : Tree) (root key base : Key) (old new : List ℕ) → HasUps t root root key base old new → (base ≡ root) × (new ≡ old)
 no_ups t root key base old new h = go h.up refl
   where

@@ -32,7 +32,7 @@ pairs_append R xs ys p q cross = λ i j d l h. (
           ])
     ])
 
--- a bound that moved up leaves what was not above it
+-- a name above a bound is not before a name that is not above it
 pub still_not : (bound : Option (List ℕ)) (name c : List ℕ) → above bound name ≡ false → above bound c ≡ true → before c name ≡ false
 still_not None name c h g = absurd (let x : true ≡ false = h in cc)
 still_not (Some b) name c h g = elim (before c name) as (λ v. before c name ≡ v → v ≡ false) [ true ↦ λ e. sym (before_trans b c name g e) ∙ h | false ↦ λ e. refl ] refl

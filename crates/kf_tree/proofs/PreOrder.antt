@@ -19,11 +19,13 @@ use Rattle.kf_tree.proofs.PostOrder.{pairs_append, child_below}
 use Rattle.kf_tree.proofs.Apart.{dir_of, sub_self, sub_parent, sub_trans, sub_up, sub_down, not_apart, apart_above, apart_child, apart_sibling, before_parent}
 use Rattle.kf_tree.proofs.Tours.{first_listed, none_listed, is_left, count_left}
 
--- what has been visited when a walk leaves a record upwards: what is over it, what is apart before it, and all below it
+-- what has been visited when a walk goes up from a record: the keys over it, the keys apart from it and
+-- before it, and all keys below it
 abbrev Visited : Tree → Key → Key → Type 0
 Visited t c k = (in_subtree t k c ≡ true) ⊎ (AreApart t k c ⊎ (in_subtree t c k ≡ true))
 
--- the way up from a key has come to the current one, and between the key and the leaving of the current one nothing is visited
+-- the way up from a key has come to the current one; when the walk leaves that one, it has visited the key
+-- and what precedes the key, and nothing else
 pub record IsOnWayUp (t : Tree) (key current : Key) : Type 0 where
   pub linked : IsTrue (is_linked t current)
   pub visited : (k : Record) → IsIn t k → Visited t current k.key ↔ ((k.key ≡ key) ⊎ Precedes t k.key key)
@@ -80,7 +82,7 @@ module _ (t : Tree) (root : Key) (l : Lawful t root) where
           self : in_subtree t key key ≡ true
           self = (let here = linked_here t key linked in subst (λ z. in_subtree t z z ≡ true) here.2 (sub_self t root l here.0 here.1))
 
-  -- over a record is the record itself, or what is over its directory
+  -- a key that has the directory of a record in its subtree has the record in it too
   over_dir : (k : Key) (r : Record) (d : Key) → IsIn t r → r.parent ≡ Some d → in_subtree t k d ≡ true → in_subtree t k r.key ≡ true
   over_dir k r d i p h = sub_trans t root l k d r i h (sub_parent t root l r d i p)
 
@@ -157,7 +159,7 @@ module _ (t : Tree) (root : Key) (l : Lawful t root) where
     | inr p ↦ not_apart t root l r.0 r.1 (subst (λ k. AreApart t k k) (sym r.2) p)
   ])
 
--- the keys before the current one in pre-order
+-- the keys before the current one, in pre-order
 pub record IsAheadOf (t : Tree) (current : Key) (keys : List Key) : Type 0 where
   pub linked : IsTrue (is_linked t current)
   pub members : (key : Key) → Contains keys key ↔ (IsTrue (is_linked t key) × Precedes t key current)
@@ -224,11 +226,11 @@ module _ (t : Tree) (root : Key) (l : Lawful t root) where
   pub fewer_ahead : (current : Key) (keys new : List Key) → IsAheadOf t current keys → new ≡ keys ++ current ∷ [] → count_by (is_left new) t < count_by (is_left keys) t
   fewer_ahead current keys new u e = count_left t current keys new u.linked (λ c. not_ahead t root l current u.linked ((u.members current).0 c).1) e
 
-  -- what the code finds on its way on
+  -- the next key, from what the code finds
   pub child_next : (key : Key) (entry : List ℕ × Key) (later : List (List ℕ × Key)) → IsTrue (is_linked t key) → AreNext t key None (entry ∷ later) → IsNextInPreOrder t key entry.1
   child_next key entry later linked listed = (let n = first_listed t key None entry later listed in subst (IsNextInPreOrder t key) n.2 (next_by_child t root l key n.0 linked n.1))
 
-  -- the record that a key finds
+  -- what holds for the record that a key finds holds for the key
   found_as : (P : Key → Type 0) (current : Key) (r : Record) → Some r ≡ record_at t current → (IsIn t r → P r.key) → P current
   found_as P current r known f = (let i = found_in t current r (sym known) in subst P i.1 (f i.0))
 

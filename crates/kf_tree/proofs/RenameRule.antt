@@ -1,4 +1,4 @@
--- The rule of renames, said by what must hold and by the first cause against it, is one.
+-- The two forms of the rule for renames agree: what must hold, and the first cause to refuse.
 use Rattle.std.proofs.Common.{◌≡◌, inl, inr, ℕ, refl, ap, sym, ◌∙◌, Bool, true, false, cond, not, ◌&&◌, List, [], ◌∷◌}
 use Rattle.std.specs.Prelude.{Option, None, Some, slice_get, is_some, ◌↔◌}
 use Rattle.std.specs.Option.{option_map_or}

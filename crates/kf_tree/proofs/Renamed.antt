@@ -1,4 +1,4 @@
--- A tree stays lawful when a record moves, but not below itself.
+-- A tree stays lawful when a record moves, unless it moves below itself.
 use Rattle.std.proofs.Common.{◌≡◌, ◌≢◌, ◌⊎◌, inl, inr, ℕ, suc, ◌+◌, ◌-◌, ◌<◌, refl, ap, arith, subst, sym, ◌∙◌, true, false, cond, List}
 use Rattle.std.specs.Prelude.{Option, None, Some}
 use Rattle.std.specs.Option.{option_map, option_and_then}
@@ -58,7 +58,7 @@ module _ (t : Tree) (root key dir : Key) (name : List ℕ) (l : Lawful t root) (
   dir_other : dir ≢ key
   dir_other e = not_below 0 (ap Some e)
 
-  -- another key has the parent that it had
+  -- every other key keeps its parent
   parent_other : (k : Key) → k ≢ key → parent_of t k ≡ parent_of moved k
   parent_other k n = go (record_at t k) refl ∙ ap (λ o. option_and_then (λ (r : Record). r.parent) o) (sym (find_mapped t move same k))
     where
@@ -73,7 +73,7 @@ module _ (t : Tree) (root key dir : Key) (name : List ℕ) (l : Lawful t root) (
   parent_this = ap (λ o. option_and_then (λ (r : Record). r.parent) o) (find_mapped t move same key ∙ ap (option_map move) m.found) ∙
       elim (moves m.moving) [ inl h ↦ ap (λ (x : Record). x.parent) h.1 | inr h ↦ absurd (h.0 (found_in t key m.moving m.found).1) ]
 
-  -- a way that does not come by the key stays
+  -- a way up that does not pass the key stays the same
   way_apart : (n : ℕ) (k : Key) → ((i : ℕ) → i < n → ancestor t i k ≡ Some key → ⊥) → ancestor t n k ≡ ancestor moved n k
   way_apart n k h = climb_same (parent_of t) (parent_of moved) n k (λ i x g c. parent_other x (λ e. h i g (c ∙ ap Some e)))
 
@@ -87,7 +87,7 @@ module _ (t : Tree) (root key dir : Key) (name : List ℕ) (l : Lawful t root) (
   root_top : parent_of moved root ≡ None
   root_top = ap (λ o. option_and_then (λ (r : Record). r.parent) o) root_kept
 
-  -- from the key the way goes by its new directory
+  -- the way up from the key goes through its new directory to the root
   way_here : (n : ℕ) × (ancestor moved n key ≡ Some root)
   way_here = (let w = root_met t root l m.into target_in in
       let up : ancestor t w.0 dir ≡ Some root = ap (ancestor t w.0) (sym target_key) ∙ w.1 in
@@ -102,7 +102,7 @@ module _ (t : Tree) (root key dir : Key) (name : List ℕ) (l : Lawful t root) (
         (w.0, sym (way_apart w.0 r.key (λ i g c. (let no : false ≡ true = sym e ∙ subtree_from t root l r i key h c in cc))) ∙ w.1))
   ] refl
     where
-      -- the key is not met twice
+      -- the way up does not meet the key twice
       first : (n : ℕ) → ancestor t n r.key ≡ Some key → (i : ℕ) → i < n → ancestor t i r.key ≡ Some key → ⊥
       first n c i g d =
           (let parts : n ≡ i + suc (n - (i + 1)) = omega arith in

@@ -36,7 +36,7 @@ meets_same up up' h zero top (Some k) = refl
 meets_same up up' h (suc n) top None = refl
 meets_same up up' h (suc n) top (Some k) = ap (λ b. cond (same_key k top) true b) (ap (meets up n top) (h k) ∙ meets_same up up' h n top (up' k))
 
--- the record with other marks
+-- the record, doomed and hidden as these tests say for its key
 abbrev veil : (Key → Bool) → (Key → Bool) → Record → Record
 veil D H r = record { key = r.key; parent = r.parent; name = r.name; node = r.node; marks = record { activated = r.marks.activated; doomed = D r.key }; hidden = H r.key }
 
@@ -49,7 +49,7 @@ veiled D H t = map (option_map (veil D H)) t
 veiled_subtree : (D H : Key → Bool) (t : Tree) (top k : Key) → in_subtree (veiled D H t) top k ≡ in_subtree t top k
 veiled_subtree D H t top k = ap (λ n. meets (parent_of (veiled D H t)) n top (Some k)) (length-map t _) ∙ meets_same (parent_of (veiled D H t)) (parent_of t) (λ x. sym (parent_mapped t (veil D H) (keeps_veiled D H) x)) (length t) top (Some k)
 
--- two changes of every record, one after the other
+-- two changes to every record, one after the other, are one change
 mapped_twice : (f : Record → Record) (g h : Record → Record) → ((r : Record) → f (g r) ≡ h r) → (t : Tree) → map (option_map f) (map (option_map g) t) ≡ map (option_map h) t
 mapped_twice f g h same [] = refl
 mapped_twice f g h same (None ∷ t) = ap (λ x. None ∷ x) (mapped_twice f g h same t)
@@ -70,7 +70,8 @@ hide_veiled D H t key = mapped_twice (λ r. cond (same_key r.key key) (hidden_re
     one r true = refl
     one r false = refl
 
--- what is covered when some commands of keys, each of which covers some keys, have been replayed
+-- whether a key is covered after a list of keys was replayed: each of them that passes the test covers some
+-- keys
 abbrev covers : (Key → Bool) → (Key → Key → Bool) → List Key → (Key → Bool) → Key → Bool
 covers test over [] D = D
 covers test over (key ∷ keys) D = covers test over keys (λ k. cond (test key) (over key k || D k) (D k))
@@ -195,7 +196,7 @@ module _ (t : Tree) (root : Key) (l : Lawful t root) (keys : List Key) (order : 
       is : hidden_in t r.key ≡ r.hidden
       is = ap (λ o. option_map_or (λ (y : Record). y.hidden) o false) (in_found t r i)
 
-  -- the tree with its own marks is the tree
+  -- the dooms and hidings of these keys give each record the marks that it has in the tree
   veiled_whole : veiled (dooms_over t keys) (hides_over t keys) t ≡ t
   veiled_whole = list_same _ _ (λ j. slice_get-map (option_map (veil (dooms_over t keys) (hides_over t keys))) t j ∙ go j (slice_get t j) refl)
     where

@@ -1,4 +1,4 @@
--- Each tree command, and the writes of slots that go with it, keep the marks the same.
+-- Each tree command, and the slot writes that go with it, keep the marks of tree and slots the same.
 use Rattle.std.proofs.Common.{◌≡◌, inl, inr, ℕ, zero, suc, ◌<◌, refl, ap, arith, sym, ◌∙◌, subst, Bool, true, false, cond, List, [], ◌∷◌, length, slice_set}
 use Rattle.std.specs.Prelude.{Option, None, Some, slice_get, is_some, Contains, slice_index_or, ◌&&◌, ◌||◌, not}
 use Rattle.std.specs.Option.{option_map}
@@ -37,7 +37,7 @@ marks_cleared t r k h = elim (keys_tell r.key k) [
   | inr n ↦ ap (option_map (λ (x : Record). x.marks)) (find_cleared t r k h (λ e. n.1 (sym e))) ∙ sym (ap (λ b. cond b None (marks_of t k)) n.0)
 ]
 
--- a slot that the words have vacant is vacant in the tree
+-- a slot that is vacant in the words is vacant in the tree
 pub vacant_in_tree : (slots : List SlotState) (t : Tree) (root key : Key) → SameMarks slots t → Lawful t root → length slots ≡ length t → IsEmpty slots key → slice_get t key.slot ≡ Some None
 vacant_in_tree slots t root key same l wide v = go (slice_get t key.slot) refl
   where
@@ -53,7 +53,7 @@ vacant_in_tree slots t root key same l wide v = go (slice_get t key.slot) refl
         let is_in : IsIn t r = ap (slice_get t) slot ∙ e in
         none-some r.marks (sym (nobody_vacant slots key.slot v.last r.key v.vacant slot) ∙ same r.key ∙ ap (option_map (λ (x : Record). x.marks)) (in_found t r is_in)))
 
--- Create is a birth, and if the node is live a rise
+-- Create is a birth, followed by a rise if the node is live
 pub same_born : (slots : List SlotState) (t : Tree) (root key parent : Key) (name : List ℕ) (node : Node) → SameMarks slots t → Lawful t root → length slots ≡ length t → IsEmpty slots key →
     SameMarks (written slots key (Some fresh_marks)) (after t (Create key parent name node false))
 same_born slots t root key parent name node same l wide v k =
@@ -75,7 +75,7 @@ same_born_live slots t root key parent name node same l wide v k =
     born : marks_at (written slots key (Some fresh_marks)) key ≡ Some fresh_marks
     born = marks_written slots key key (Some fresh_marks) (alone_vacant slots key v) ∙ ap (λ b. cond b (Some fresh_marks) (marks_at slots key)) (same_key_self key)
 
--- Unlink is one write too
+-- Unlink is one write, too
 pub same_unlinked : (slots : List SlotState) (t : Tree) (key : Key) → SameMarks slots t → is_linked t key ≡ true → SameMarks (written slots key None) (after t (Unlink key))
 same_unlinked slots t key same linked k =
     (let r = linked_here t key linked in
@@ -111,7 +111,7 @@ same_renamed slots t key dir name same k =
 abbrev hidden_at : Key → Bool → Record → Record
 hidden_at key b r = cond (same_key r.key key) (hidden_record b r) r
 
--- Hide and Show leave all marks
+-- Hide and Show change none of these marks
 pub same_hidden : (slots : List SlotState) (t : Tree) (key : Key) (b : Bool) → SameMarks slots t → SameMarks slots (change (λ r. same_key r.key key) (hidden_record b) t)
 same_hidden slots t key b same k =
     same k ∙ sym (ap (option_map (λ (x : Record). x.marks)) (find_mapped t (hidden_at key b) same_keys k) ∙ kept (record_at t k))
@@ -126,7 +126,7 @@ same_hidden slots t key b same k =
     kept None = refl
     kept (Some r) = ap (λ m. Some m) (same_marks r)
 
--- a key is listed, or not
+-- `contains_key` is true of a key if and only if the list has the key
 pub listed : (keys : List Key) (k : Key) → contains_key keys k ≡ true → Contains keys k
 listed [] k h = absurd (cc)
 listed (x ∷ xs) k h = elim (keys_tell x k) [
@@ -146,7 +146,7 @@ listed_at (x ∷ xs) k (suc i) l e = later (same_key x k) (contains_key xs k) (l
 pub is_listed : (keys : List Key) (k : Key) → Contains keys k → contains_key keys k ≡ true
 is_listed keys k h = listed_at keys k h.0 h.1 h.2
 
--- in post-order stand just the keys of the subtree
+-- a post-order has the keys of the subtree, and no others
 pub listed_below : (t : Tree) (top : Key) (keys : List Key) (r : Record) → IsPostOrder t top keys → IsIn t r → contains_key keys r.key ≡ in_subtree t top r.key
 listed_below t top keys r p h = elim (in_subtree t top r.key) as (λ b. in_subtree t top r.key ≡ b → contains_key keys r.key ≡ b) [
   | true ↦ λ e. is_listed keys r.key ((p.members r.key).1 (ap is_some (in_found t r h), e))
@@ -157,7 +157,7 @@ listed_below t top keys r p h = elim (in_subtree t top r.key) as (λ b. in_subtr
 ] refl
 
 module _ (t : Tree) (top : Key) (keys : List Key) (slots new : List SlotState) (same : SameMarks slots t) (p : IsPostOrder t top keys) where
-  -- Doom is one mark for each node of the subtree that is not doomed
+  -- Doom is one mark for each node of the subtree that is not doomed yet
   pub same_doomed : Changed doomed_if keys slots new → SameMarks new (after t (Doom top))
   same_doomed changed k = changed k ∙ ap (option_map (doomed_if (contains_key keys k))) (same k) ∙ (go (record_at t k) refl ∙ sym (ap (option_map (λ (x : Record). x.marks)) (find_mapped t (doomed_below t top) same_keys k)))
     where
@@ -173,7 +173,7 @@ module _ (t : Tree) (top : Key) (keys : List Key) (slots new : List SlotState) (
       go (Some r) e = (let f = found_in t k r e in
           ap (λ b. Some (doomed_if b r.marks)) (subst (λ x. contains_key keys x ≡ in_subtree t top r.key) f.1 (listed_below t top keys r p f.0)) ∙ ap (λ m. Some m) (its_marks r (in_subtree t top r.key)))
 
-  -- Activate is one rise for each that is neither activated nor doomed
+  -- Activate is one rise for each node of the subtree that is neither activated nor doomed
   pub same_risen : Changed risen_if keys slots new → SameMarks new (after t (Activate top))
   same_risen changed k = changed k ∙ ap (option_map (risen_if (contains_key keys k))) (same k) ∙ (go (record_at t k) refl ∙ sym (ap (option_map (λ (x : Record). x.marks)) (find_mapped t (risen_below t top) same_keys k)))
     where

@@ -1,4 +1,4 @@
--- One write of a slot, and what it makes of each key's marks.
+-- One write of a slot, and what it does to the marks of each key.
 use Rattle.std.proofs.Common.{◌≡◌, ◌≢◌, inl, inr, ℕ, ◌<◌, refl, ap, sym, ◌∙◌, subst, Bool, true, false, cond, List, length, slice_set}
 use Rattle.std.specs.Prelude.{Option, None, Some, slice_get, ◌==◌}
 use Rattle.std.proofs.lemmas.Option.{none-some, slice_get_within}
@@ -12,16 +12,16 @@ use Rattle.kf_core.proofs.Climbs.{keys_tell, same_key_self, same_parts}
 use Rattle.kf_core.proofs.Lists.{slice_get-set_same, slice_get-set_other, length_set}
 use Rattle.kf_tree.specs.SlotMarks.{marks_at}
 
--- the slots, if that of the key has its generation and these marks
+-- the slots after the key's slot is written, with the key's generation and these marks
 abbrev pub written : List SlotState → Key → Option NodeFlags → List SlotState
 written slots key m = slice_set slots key.slot (record { generation = key.generation; marks = m })
 
--- the slot of the key has no linked node
+-- the slot of the key exists, and no node is linked in it
 pub record IsEmpty (slots : List SlotState) (key : Key) : Type 0 where
   pub last : ℕ
   pub vacant : slice_get slots key.slot ≡ Some (record { generation = last; marks = None })
 
--- the slot of the key is there, and no other key is linked in it
+-- the slot of the key exists, and no other key is linked in it
 pub record IsAlone (slots : List SlotState) (key : Key) : Type 0 where
   pub within : key.slot < length slots
   pub alone : (other : Key) → other.slot ≡ key.slot → other ≢ key → marks_at slots other ≡ None
@@ -69,7 +69,7 @@ alone_linked slots key m h = record {
     at : slice_get slots key.slot ≡ Some (record { generation = key.generation; marks = Some m })
     at = linked_slot slots key m h
 
--- in a vacant slot nobody is linked
+-- no node is linked in a vacant slot
 pub nobody_vacant : (slots : List SlotState) (slot last : ℕ) (other : Key) → slice_get slots slot ≡ Some (record { generation = last; marks = None }) → other.slot ≡ slot → marks_at slots other ≡ None
 nobody_vacant slots slot last other v s = ap (λ x. marks_in (slice_get slots x) other.generation) s ∙ ap (λ o. marks_in o other.generation) v ∙ either (last == other.generation)
   where

@@ -1,4 +1,4 @@
--- A state stays sound with each command that is stored.
+-- A state stays sound whenever a command is stored.
 use Rattle.std.proofs.Common.{◌≡◌, ℕ, ◌+◌, ◌<◌, ◌≤◌, refl, ap, arith, sym, ◌∙◌, subst, Bool, true, false, cond, not, ◌&&◌, List, [], ◌∷◌, ◌++◌, length, length-append, slice_set}
 use Rattle.std.specs.Prelude.{Option, None, Some, slice_get, IsTrue, is_some, map}
 use Rattle.std.specs.Option.{option_map, option_map_or, option_and_then}
@@ -42,7 +42,7 @@ use Rattle.kf_tree.proofs.Unlinked.{lawful_unlinked}
 abbrev pub stored : TreeLog → Command → TreeLog
 stored s c = record { root = s.root; tree = after s.tree c; commands = s.commands ++ c ∷ []; ready = None }
 
--- it is sound with this much room and this many doomed records, and the command was accepted
+-- the new state is sound, with this capacity and this many commands owed, and the command was accepted
 abbrev pub Follows : TreeLog → Command → Option Refusal → ℕ → ℕ → TreeLog → Type 0
 Follows s c cause capacity doomed new = (IsSound new capacity doomed) × (IsAccepted s new cause c)
 
@@ -70,7 +70,7 @@ uncaused : (t : Tree) (root key parent : Key) (name : List ℕ) (node : Node) �
 uncaused t root key parent name node h = ap (λ c. first_cause (c ∷ None ∷ [])) h
 
 module _ (s : TreeLog) (before had : ℕ) (sound : IsSound s before had) where
-  -- a growth of the list
+  -- the state stays sound when its command list grows
   pub sound_grown : (capacity : ℕ) → before ≤ capacity → IsSound s capacity had
   sound_grown capacity more = record {
     kept = sound.kept;
@@ -80,7 +80,8 @@ module _ (s : TreeLog) (before had : ℕ) (sound : IsSound s before had) where
     ready = λ key h. (let x = sound.ready key h in let r = x.room in record { no_cause = x.no_cause; room = omega (arith, r, more) });
   }
 
-  -- a change of every record that leaves whether it is doomed, and whether it is hidden
+  -- if a change to every record keeps whether it is doomed and whether it is hidden, the state owes as many
+  -- commands as before
   same_owed : (g : Record → Record) → ((r : Record) → (g r).marks.doomed ≡ r.marks.doomed) → ((r : Record) → (g r).hidden ≡ r.hidden) → had ≡ owed_count (map (option_map g) s.tree)
   same_owed g marks hidden = (let c = sound.counted in let d = doomed_mapped g marks s.tree in let h = hidden_mapped g hidden s.tree in omega (arith, c, d, h))
 
@@ -124,7 +125,7 @@ module _ (s : TreeLog) (before had : ℕ) (sound : IsSound s before had) where
       unmarked : (r : Record) → (cond (in_subtree s.tree key r.key && not r.marks.doomed) (activated_record r) r).marks.doomed ≡ r.marks.doomed
       unmarked r = elim (in_subtree s.tree key r.key && not r.marks.doomed) as (λ b. (cond b (activated_record r) r).marks.doomed ≡ r.marks.doomed) [ true ↦ refl | false ↦ refl ]
 
-  -- at most as many records are newly doomed as were not doomed
+  -- at most as many records are newly doomed as were not doomed before
   pub newly_few : (newly room_for : ℕ) (keys seen : List Key) (tree : List (Option Record)) → tree ≡ with_changed_slots doomed_record s.tree keys → doomed_count tree ≡ doomed_count s.tree + newly →
       seen ≡ keys → room_for ≡ undoomed_count s.tree seen → newly ≤ room_for
   newly_few newly room_for keys seen tree changed counted same is =
@@ -162,7 +163,8 @@ module _ (s : TreeLog) (before had : ℕ) (sound : IsSound s before had) where
   owed_here : (key : Key) (m : MayUnlink s.tree s.root key) → cond (hidden_in s.tree key) 2 1 ≡ 1 + cond {A = ℕ} m.gone.hidden 1 0
   owed_here key m = ap (λ o. cond (option_map_or (λ (r : Record). r.hidden) o false) 2 1) m.known ∙ elim m.gone.hidden as (λ b. cond {A = ℕ} b 2 1 ≡ 1 + cond {A = ℕ} b 1 0) [ true ↦ refl | false ↦ refl ]
 
-  -- there is room for the unlink of a doomed record, and a doomed record is counted
+  -- there is room for the unlink of a doomed record, and what is owed counts the record: twice if it is
+  -- hidden
   pub room_to_unlink : (key : Key) → MayUnlink s.tree s.root key → (length s.commands < before) × (cond (hidden_in s.tree key) 2 1 ≤ had)
   room_to_unlink key m =
       (let f = found_in s.tree key m.gone m.known in
@@ -208,7 +210,7 @@ module _ (s : TreeLog) (before had : ℕ) (sound : IsSound s before had) where
   pub renamed_linked : (key dir : Key) (name : List ℕ) → rename_cause s.tree s.root key dir name ≡ None → is_there_already s.tree key dir name ≡ false → IsTrue (is_linked s.tree key)
   renamed_linked key dir name none away = (let m = may_move_from s.tree s.root key dir name sound.kept.lawful (none, away) in ap is_some m.found)
 
-  -- what is said of where a record is, of the name or of its copy
+  -- whether a record is there already is the same for the name and for its copy
   pub still_elsewhere : (key dir : Key) (name own : List ℕ) → is_there_already s.tree key dir name ≡ false → own ≡ name → is_there_already s.tree key dir own ≡ false
   still_elsewhere key dir name own away same = ap (λ (n : List ℕ). is_there_already s.tree key dir n) same ∙ away
 
@@ -230,7 +232,7 @@ module _ (s : TreeLog) (before had : ℕ) (sound : IsSound s before had) where
       unmarked : (r : Record) → (cond (same_key r.key key) (moved_record dir name r) r).marks.doomed ≡ r.marks.doomed
       unmarked r = elim (same_key r.key key) as (λ b. (cond b (moved_record dir name r) r).marks.doomed ≡ r.marks.doomed) [ true ↦ refl | false ↦ refl ]
 
-  -- one record, changed in its slot
+  -- changing one record in its slot writes the changed record there
   changed_slot_is : (g : Record → Record) (key : Key) (r : Record) → record_at s.tree key ≡ Some r → with_changed_slot g s.tree key.slot ≡ slice_set s.tree key.slot (Some (g r))
   changed_slot_is g key r known = (let f = found_in s.tree key r known in
       ap (λ o. slice_set s.tree key.slot (option_and_then (option_map g) o)) (ap (λ (k : Key). slice_get s.tree k.slot) (sym f.1) ∙ f.0))
@@ -247,7 +249,7 @@ module _ (s : TreeLog) (before had : ℕ) (sound : IsSound s before had) where
       let e = ap (λ (t : Tree). owed_count t) is in
       omega (arith, d, h, e))
 
-  -- a key that is ready is hidden
+  -- there is room to hide a key that is ready, and to show it again
   pub room_to_hide : (key : Key) → s.ready ≡ Some key → length s.commands + 2 + had ≤ before
   room_to_hide key e = (sound.ready key e).room
 
@@ -272,7 +274,7 @@ module _ (s : TreeLog) (before had : ℕ) (sound : IsSound s before had) where
       no_root file other e = (let same : root_record s.root ≡ file = same_Some _ file (sym (root_found s.tree s.root sound.kept.lawful) ∙ e) in
           let x : true ≡ false = ap (λ (r : Record). is_dir r.node) same ∙ other in cc)
 
-  -- there is room for the show of a hidden record, and it is counted
+  -- there is room to show a hidden record, and what is owed counts the record
   pub room_to_show : (key : Key) → hidden_in s.tree key ≡ true → (length s.commands < before) × (1 ≤ had)
   room_to_show key h =
       (let x = hidden_record_of s.tree key h in
@@ -296,7 +298,8 @@ pub flip : (b moves : Bool) → moves ≡ not b → moves ≡ true → b ≡ fal
 flip true moves e h = (let x : false ≡ true = sym e ∙ h in sym x)
 flip false moves e h = refl
 
--- the canonical list of the tree in place of the commands
+-- the state stays sound with the canonical list of its tree in place of its commands, if that list leaves
+-- room for the commands that the state owes
 pub compacted : (s : TreeLog) (before owed capacity : ℕ) (commands : List Command) → IsSound s before owed → IsCanonical s.tree commands → length commands + owed ≤ capacity →
     IsSound (record { root = s.root; tree = s.tree; commands = commands; ready = None }) capacity owed × IsCompacted s (record { root = s.root; tree = s.tree; commands = commands; ready = None })
 compacted s before owed capacity commands sound canonical room =

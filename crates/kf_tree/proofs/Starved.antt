@@ -1,4 +1,4 @@
--- Want of memory is no cause of a refusal.
+-- Lack of memory is never among the causes of a refusal.
 use Rattle.std.proofs.Common.{◌≡◌, ◌≢◌, ℕ, Bool, true, false, cond, not, List, [], ◌∷◌, length}
 use Rattle.std.specs.Prelude.{Option, None, Some, nat_le}
 use Rattle.std.specs.Str.{bytes_eq}

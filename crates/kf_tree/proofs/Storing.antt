@@ -25,7 +25,7 @@ one old new cause c accepted = record {
   stored = accepted.stored;
 }
 
--- one list of commands, and then another
+-- two lists of commands, stored one after the other, are stored as one list
 pub join : (a b c : TreeLog) (xs ys : List Command) → Stores a b xs → Stores b c ys → Stores a c (xs ++ ys)
 join a b c xs ys first other = record {
   same_root = other.same_root ∙ first.same_root;

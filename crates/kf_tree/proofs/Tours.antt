@@ -25,13 +25,13 @@ use Rattle.kf_tree.proofs.Over.{fewer_over}
 use Rattle.kf_tree.proofs.Distinct.{distinct_from, few_keys}
 use Rattle.kf_tree.proofs.Apart.{dir_of, sub_self, sub_parent, sub_trans, sub_up, sub_down, not_apart, apart_above, apart_child, apart_sibling, before_parent}
 
--- how far the way down by first children has come
+-- the way down from the top by first children has come to the current key
 pub record IsOnWayDown (t : Tree) (top current : Key) : Type 0 where
   pub linked : IsTrue (is_linked t current)
   pub below : IsTrue (in_subtree t top current)
   pub left : (key : Key) → AreApart t key current ↔ AreApart t key top
 
--- the first of the children
+-- the first entry of a list of next children is the next child
 pub first_listed : (t : Tree) (dir : Key) (bound : Option (List ℕ)) (entry : List ℕ × Key) (later : List (List ℕ × Key)) → AreNext t dir bound (entry ∷ later) → (c : Record) × IsNext t dir bound c × (c.key ≡ entry.1)
 unfolding AreNext
 first_listed t dir bound entry later left = (left.0.0, left.0.1, left.0.3)
@@ -55,7 +55,7 @@ pushed_in (k ∷ keys) key h = elim (keys_tell key k) [
   | inr e ↦ Contains-append_right (k ∷ []) keys key (pushed_in keys key (rw e.0 at h))
 ]
 
--- one key more in a list that lacked it
+-- one more key in a list that lacked it leaves fewer records
 pub count_left : (t : Tree) (current : Key) (keys new : List Key) → IsTrue (is_linked t current) → (Contains keys current → ⊥) → new ≡ keys ++ current ∷ [] → count_by (is_left new) t < count_by (is_left keys) t
 count_left t current keys new linked lacked e = (let r = linked_here t current linked in
     subst (λ xs. count_by (is_left xs) t < count_by (is_left keys) t) (sym e)
@@ -136,7 +136,7 @@ module _ (t : Tree) (root : Key) (l : Lawful t root) where
     | inr s ↦ elim s [ inl h ↦ inr h.0 | inr p ↦ inl p ]
   ]
 
-  -- on to the first leaf of the next sibling
+  -- the first leaf of the next sibling comes next in post-order
   pub next_by_sibling : (top next : Key) (r s : Record) (d : Key) → IsIn t r → r.parent ≡ Some d → r.key ≢ top → in_subtree t top r.key ≡ true → IsNext t d (Some r.name) s → IsFirstBelow t s.key next → IsNextInPostOrder t top r.key next
   next_by_sibling top next r s d i p other b n f =
       (let nr = linked_here t next f.linked in
@@ -158,7 +158,7 @@ module _ (t : Tree) (root : Key) (l : Lawful t root) where
         (λ x. inr ((f.left k.key).1 (a.1 (left_behind k.key r i x)))),
       ))
 
-  -- up from the last sibling
+  -- after the last sibling comes its directory
   pub next_by_parent : (top : Key) (r : Record) (d : Key) → IsIn t r → r.parent ≡ Some d → r.key ≢ top → in_subtree t top r.key ≡ true → NoneAbove t d (Some r.name) → IsNextInPostOrder t top r.key d
   next_by_parent top r d i p other b none =
       (let x = dir_of t root l r d i p in
@@ -178,7 +178,7 @@ module _ (t : Tree) (root : Key) (l : Lawful t root) where
     | inr p ↦ not_apart t root l r.0 r.1 (subst (λ k. AreApart t k k) (sym r.2) p)
   ])
 
-  -- the list has what stands before the current key, and nothing else
+  -- the list has exactly the keys that come before the current one
   pub first_up_to : (top current : Key) → IsFirstBelow t top current → IsUpTo t top current []
   first_up_to top current f = record {
     linked = f.linked;
@@ -241,7 +241,8 @@ module _ (t : Tree) (root : Key) (l : Lawful t root) where
     (keys, e ∙ ap (λ k. keys ++ k ∷ []) at),
   )
 
-  -- all of these and the current key are linked, and none is there twice
+  -- the keys so far and the current key are linked and none comes twice, so the keys so far are fewer than
+  -- the slots
   pub fewer_passed : (top current : Key) (keys : List Key) → IsUpTo t top current keys → length keys < length t
   fewer_passed top current keys u =
       (let linked : (k : Key) → Contains (keys ++ current ∷ []) k → IsTrue (is_linked t k) = λ k c. elim (Contains-append_cases keys (current ∷ []) k c) [
@@ -255,11 +256,11 @@ module _ (t : Tree) (root : Key) (l : Lawful t root) where
       let long = length-append keys (current ∷ []) in
       omega (arith, few, most, long))
 
-  -- one key more is pushed
+  -- one more pushed key leaves fewer records
   pub fewer_left : (top current : Key) (keys new : List Key) → IsUpTo t top current keys → new ≡ keys ++ current ∷ [] → count_by (is_left new) t < count_by (is_left keys) t
   fewer_left top current keys new u e = count_left t current keys new u.linked (λ c. not_before_itself current u.linked ((u.members current).0 c).2) e
 
-  -- what the code finds on its way on
+  -- the next key, from what the code finds
   pub linked_sibling : (d : Key) (bound : Option (List ℕ)) (entry : List ℕ × Key) (later : List (List ℕ × Key)) → AreNext t d bound (entry ∷ later) → IsTrue (is_linked t entry.1)
   linked_sibling d bound entry later listed = (let n = first_listed t d bound entry later listed in ap (is_linked t) (sym n.2) ∙ ap is_some (in_found t n.0 n.1.is_in))
 

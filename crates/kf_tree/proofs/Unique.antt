@@ -1,4 +1,4 @@
--- There is one listing of a request, one post-order of a subtree, and one canonical list of a tree.
+-- A request has only one listing, a subtree only one post-order, and a tree only one canonical list.
 use Rattle.std.proofs.Common.{◌≡◌, ◌≢◌, ◌⊎◌, inl, inr, ℕ, zero, suc, ◌+◌, ◌-◌, ◌<◌, refl, ap, arith, sym, ◌∙◌, subst, List, [], ◌∷◌, ◌++◌}
 use Rattle.std.specs.Prelude.{Option, None, Some, AllPairs, Contains, IsTrue}
 use Rattle.std.proofs.lemmas.Cmp.{nat_list_cmp_total}
@@ -37,7 +37,7 @@ module _ {X : Type 0} (R : X → X → Type 0) where
   pub itself_first : (y : X) (ys : List X) → Contains (y ∷ ys) y
   itself_first y ys = (0, omega arith, refl)
 
-  -- two lists of the same items, each in the same strict order, are one
+  -- two lists of the same items in the same strict order are the same list
   pub one_order : (xs ys : List X) → ((x : X) → Contains xs x → R x x → ⊥) → ((x y : X) → Contains xs x → Contains xs y → R x y → R y x → ⊥) →
       AllPairs R xs → AllPairs R ys → ((x : X) → Contains xs x → Contains ys x) → ((x : X) → Contains ys x → Contains xs x) → xs ≡ ys
   one_order [] [] irr asym p q to from = refl
@@ -75,7 +75,7 @@ module _ (t : Tree) (dir : Key) where
   above_through None x name a b = tt
   above_through (Some low) x name a b = nat_list_cmp_total.trans low x name a b
 
-  -- what follows the first name is the listing above it
+  -- the names after the first are the listing above it
   later_listing : (bound : Option (List ℕ)) (limit : ℕ) (x : List ℕ) (xs : List (List ℕ)) → IsListing t dir bound limit (x ∷ xs) → IsListing t dir (Some x) (limit - 1) xs
   later_listing bound limit x xs l = record {
     listed = λ k d h. record {
@@ -90,7 +90,7 @@ module _ (t : Tree) (dir : Key) where
     ];
   }
 
-  -- the first name of a listing is in any other, or all of the other stand before it
+  -- if a listing begins with a name, any other of the same request begins with that name or one before it
   not_empty : (bound : Option (List ℕ)) (limit : ℕ) (x : List ℕ) (xs : List (List ℕ)) → IsListing t dir bound limit (x ∷ xs) → IsListing t dir bound limit [] → ⊥
   not_empty bound limit x xs l none = elim (none.first x (l.listed 0 x (omega arith))) [
     | inl c ↦ (let h = c.1 in omega (arith, h))
@@ -128,7 +128,7 @@ module _ (t : Tree) (root : Key) (l : Lawful t root) where
   abbrev pub IsOverBy : ℕ → Key → Key → Type 0
   IsOverBy n over key = ancestor t n key ≡ Some over
 
-  -- two siblings over one key are one
+  -- two siblings over the same key have the same key
   pub siblings_meet : (r s : Record) (n m : ℕ) (key : Key) → IsIn t r → IsIn t s → r.parent ≡ s.parent → IsOverBy n r.key key → IsOverBy m s.key key → r.key ≡ s.key
   siblings_meet r s n m key i j same up_r up_s = go r.parent refl
     where
@@ -145,7 +145,7 @@ module _ (t : Tree) (root : Key) (l : Lawful t root) where
           let level : n ≡ m = omega (arith, steps) in
           same_Some r.key s.key (sym up_r ∙ ap (λ k. ancestor t k key) level ∙ up_s))
 
-  -- no sibling over a key stands before another that is over it
+  -- of two siblings over the same key, neither is before the other
   siblings_tied : (r s : Record) (n m : ℕ) (key : Key) → IsIn t r → IsIn t s → r.parent ≡ s.parent → IsBefore r.name s.name → IsOverBy n r.key key → IsOverBy m s.key key → ⊥
   siblings_tied r s n m key i j same order up_r up_s =
       before_self r.name (subst (λ (x : Record). IsBefore r.name x.name) (sym (same_record t r s i j (siblings_meet r s n m key i j same up_r up_s))) order)
@@ -153,7 +153,7 @@ module _ (t : Tree) (root : Key) (l : Lawful t root) where
   steps_to : (top key : Key) → IsTrue (in_subtree t top key) → (n : ℕ) × IsOverBy n top key
   steps_to top key h = subtree_to t root l top key h
 
-  -- what is over a key that is over another is over that other
+  -- if b is n steps above a, and c is m steps above b, then c is n + m steps above a
   over_through : (n m : ℕ) (a b c : Key) → IsOverBy n b a → IsOverBy m c b → IsOverBy (n + m) c a
   over_through n m a b c h g = climb_rest (parent_of t) n m a b h ∙ g
 
@@ -170,7 +170,7 @@ module _ (t : Tree) (root : Key) (l : Lawful t root) where
       let round : ancestor t (suc (n + m)) a ≡ Some a = (let e : suc (n + m) ≡ suc n + m = omega arith in ap (λ k. ancestor t k a) e) ∙ over_through (suc n) m a b a h g in
       no_return (parent_of t) root (root_parent t root l) w.0 (n + m) a (ap (ancestor t w.0) (sym r.2) ∙ w.1) round)
 
-  -- the siblings of two pairs, each pair apart the other way, can't be over the same two keys
+  -- two pairs of siblings cannot put the same two keys in opposite orders
   crossed : (f s f' s' : Record) (n m n' m' : ℕ) (a b : Key) → IsIn t f → IsIn t s → IsIn t f' → IsIn t s' → f.parent ≡ s.parent → f'.parent ≡ s'.parent → IsBefore f.name s.name → IsBefore f'.name s'.name →
       IsOverBy n f.key a → IsOverBy m s.key b → IsOverBy n' f'.key b → IsOverBy m' s'.key a → ⊥
   crossed f s f' s' n m n' m' a b fi si fi' si' same same' order order' fa sb f'b s'a = elim (compared n m') [
@@ -193,7 +193,7 @@ module _ (t : Tree) (root : Key) (l : Lawful t root) where
         siblings_tied f s (n' + suc k) m b fi si same order (over_through n' (suc k) b f'.key f.key f'b up) sb)
   ]
     where
-      -- what is over a record, but is not the record, is over its siblings
+      -- what is over a record, and is not the record itself, is over its siblings
       beside : (r q : Record) → IsIn t r → IsIn t q → r.parent ≡ q.parent → (k : ℕ) (top : Key) → IsOverBy (suc k) top r.key → IsOverBy (suc k) top q.key
       beside r q i j e k top h = (let g = first_step (parent_of t) k r.key top h in
           after_step (parent_of t) k q.key g.0 (parent_known t q j ∙ sym e ∙ sym (parent_known t r i) ∙ g.1) ∙ g.2)
@@ -218,7 +218,7 @@ module _ (t : Tree) (root : Key) (l : Lawful t root) where
 
   -- ---- pre-orders, and the canonical lists that follow them
 
-  -- no sibling over a key stands before another that is over what is over the key
+  -- a key is not apart from one that has it in its subtree
   not_over_apart : (a b : Key) → IsTrue (in_subtree t a b) → AreApart t b a → ⊥
   not_over_apart a b h p = (let n = steps_to a b h in let f = steps_to p.first.key b p.over_a in let s = steps_to p.second.key a p.over_b in
       siblings_tied p.first p.second f.0 (n.0 + s.0) b p.first_in p.second_in p.siblings p.order f.1 (over_through n.0 s.0 b a p.second.key n.1 s.1))
@@ -241,7 +241,7 @@ module _ (t : Tree) (root : Key) (l : Lawful t root) where
       (λ x h. (q.members x).1 ((p.members x).0 h))
       (λ x h. (p.members x).1 ((q.members x).0 h))
 
-  -- the commands that follow a pre-order
+  -- the commands of these keys: all creations, then all dooms, then all hidings
   abbrev following : List Key → List Command
   following keys = collected (create_of t) keys ++ (collected (doom_of t) keys ++ collected (hide_of t) keys)
 

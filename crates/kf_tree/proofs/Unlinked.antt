@@ -1,4 +1,4 @@
--- A tree stays lawful when a record without children goes.
+-- A tree stays lawful when a record without children is removed.
 use Rattle.std.proofs.Common.{◌≡◌, ◌≢◌, inl, inr, ℕ, zero, suc, ap, arith, sym, ◌∙◌, slice_set}
 use Rattle.std.specs.Prelude.{None, Some, slice_get}
 use Rattle.std.proofs.lemmas.Option.{same_Some, none-some, slice_get_within}

@@ -1,4 +1,4 @@
--- No node has an empty name, so no walk over one ends well.
+-- No node has an empty name, so no walk over an empty name succeeds.
 use Rattle.std.proofs.Common.{◌≡◌, ℕ, ap, arith, sym, ◌∙◌, true, false, cond, Bool, refl, List, [], ◌∷◌, length}
 use Rattle.std.specs.Prelude.{Option, None, Some, Ok, Err}
 use Rattle.std.specs.List.{list_any}
@@ -37,7 +37,7 @@ module _ (t : Tree) (root : Key) (lawful : Lawful t root) (live_only : Bool) whe
       let none = child_shown live_only t root dir [] lawful ∙ ap (shown_record live_only) (no_child dir) ∙ none_shown live_only in
       none_refused (record_at (shown live_only t) dir) next (sym (ap (entry_key (record_at (shown live_only t) dir)) none) ∙ e)
 
-  -- a walk that ends well goes over no empty name
+  -- a walk that succeeds goes over no empty name
   pub walked_named : (names : List (List ℕ)) (start end : Key) → walk (shown live_only t) start names ≡ Ok end → list_any is_empty names ≡ false
   walked_named [] start end e = refl
   walked_named ([] ∷ names) start end e = elim (found (shown live_only t) start []) as (λ r. found (shown live_only t) start [] ≡ r → and_then r (λ next. walk (shown live_only t) next names) ≡ Ok end → list_any is_empty ([] ∷ names) ≡ false) [

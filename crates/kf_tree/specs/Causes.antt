@@ -1,4 +1,4 @@
--- Why each call is refused: the first cause in order. Want of memory comes after all of these.
+-- Why each call is refused: the first cause in order. Lack of memory comes after all of these.
 use Rattle.std.specs.Prelude.{◌≡◌, ◌⊎◌, ℕ, Bool, false, not, List, [], ◌∷◌, Option, None, Some, is_some, if◌then◌else◌}
 use Rattle.std.specs.Option.{option_map_or, option_and_then}
 use Rattle.kf_core.specs.declared.key.Key.{Key}
@@ -14,13 +14,13 @@ use Rattle.kf_core.specs.Tree.{Tree, record_at, marks_of, is_linked, is_dir, in_
 use Rattle.kf_table.specs.Children.{child, has_child, is_there_already}
 use Rattle.kf_table.specs.Live.{live_in}
 
--- there was this cause, or none but lack of memory
+-- the refusal is this cause or, if there is no cause, NoMemory
 abbrev pub Refuses : Option Refusal → Refusal → Type 0
 Refuses cause refusal = (cause ≡ Some refusal) ⊎ ((cause ≡ None) × (refusal ≡ NoMemory))
 
 -- ---- what the causes ask
 
--- a key that is not linked counts as doomed
+-- whether the key is doomed; a key that is not linked counts as doomed
 abbrev pub doomed_in : Tree → Key → Bool
 doomed_in t key = are_doomed (marks_of t key)
 
@@ -52,7 +52,7 @@ hidden_in t key = option_map_or (λ r. r.hidden) (record_at t key) false
 
 -- ---- the causes, in order
 
--- a link's target is not linked, or is the root
+-- what is wrong with a link's target: it is not linked, or is the root; nothing if there is no target
 abbrev pub target_fault : Tree → Key → Option Key → Option Refusal
 target_fault t root None = None
 target_fault t root (Some target) = first_cause (
@@ -89,8 +89,8 @@ doom_cause t root key = first_cause (
     ∷ unless (not (same_key key root)) Invalid
     ∷ [])
 
--- why the unlink of a linked key is refused: it is not doomed, or has a child. The unlink of another key is
--- no refusal
+-- why the unlink of a linked key is refused: it is not doomed, or has a child. The unlink of any other key is
+-- not refused
 abbrev pub unlink_cause : Tree → Key → Option Refusal
 unlink_cause t key = first_cause (
     unless (doomed_in t key) Invalid
@@ -127,21 +127,21 @@ late_rename_cause t key dir name = first_cause (
     ∷ unless (not (has_entry t dir name)) Exists
     ∷ [])
 
--- why a rename is refused. A record that is there already stays, and that is no refusal
+-- why a rename is refused. A record that is there already stays, and that is not a refusal
 abbrev pub rename_cause : Tree → Key → Key → Key → List ℕ → Option Refusal
 rename_cause t root key dir name = first_cause (
     early_rename_cause t root key dir name
     ∷ (if is_there_already t key dir name then None else late_rename_cause t key dir name)
     ∷ [])
 
--- why a listing is refused: the key is not linked, or is no directory
+-- why a listing is refused: the key is not linked, or is not a directory
 abbrev pub list_cause : Tree → Key → Option Refusal
 list_cause t dir = first_cause (
     unless (is_linked t dir) NoEntry
     ∷ unless (is_directory t dir) NotDir
     ∷ [])
 
--- why the text of a link is refused: the key is not linked, or is no link, or its target is not linked
+-- why the text of a link is refused: the key is not linked, or is not a link, or its target is not linked
 abbrev pub text_cause : Tree → Key → Option Refusal
 text_cause t key = first_cause (
     unless (is_linked t key) NoEntry

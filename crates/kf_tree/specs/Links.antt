@@ -16,8 +16,8 @@ abbrev pub ups : ℕ → List ℕ
 ups zero = []
 ups (suc n) = 46 ∷ 46 ∷ 47 ∷ ups n
 
--- from the link's directory up to the first base over the target, and by the names that lead from there to
--- the target
+-- the text is `../` for each step from the link's directory up to the first base over the target, and then
+-- names that lead from that base to the target, joined by slashes
 pub record IsLinkText (t : Tree) (root dir target : Key) (text : List ℕ) : Type 0 where
   pub up : ℕ
   pub base : Key

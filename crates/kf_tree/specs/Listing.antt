@@ -18,7 +18,7 @@ pub record IsListing (t : Tree) (dir : Key) (bound : Option (List ℕ)) (limit :
   pub listed : All (IsListed t dir bound) names
   pub in_order : AllPairs IsBefore names
   pub few : length names ≤ limit
-  -- one is left out only if the limit is reached by names before it
+  -- such a name is left out only if the limit is reached by names before it
   pub first : (name : List ℕ) → IsListed t dir bound name → Contains names name
       ⊎ ((length names ≡ limit) × All (λ shown. IsBefore shown name) names)
 

@@ -11,7 +11,7 @@ use Rattle.kf_core.specs.Tree.{Tree, record_at, is_dir}
 use Rattle.kf_table.specs.Children.{child}
 use Rattle.kf_table.specs.Live.{lives}
 
--- what follows, where nothing was refused before
+-- what follows, if nothing was refused before
 abbrev pub and_then : {X Y : Type 0} → Result X Refusal → (X → Result Y Refusal) → Result Y Refusal
 and_then (Ok x) next = next x
 and_then (Err refusal) next = Err refusal
@@ -39,18 +39,18 @@ walk t key (name ∷ names) = and_then (found t key name) (λ next. walk t next 
 abbrev pub walked : Tree → Key → List ℕ → Result Key Refusal
 walked t root path = and_then (ok_or (names_of path) Invalid) (walk t root)
 
--- the record of a slot, if it is live, and else none
+-- the record of a slot if it is live, otherwise none
 abbrev pub only_live : Option Record → Option Record
 only_live None = None
 only_live (Some r) = if lives r then Some r else None
 
--- the live node that a path names, where every record that is not live counts as not there
+-- the live node that a path names; every record that is not live counts as missing
 abbrev pub seen : Tree → Key → List ℕ → Result Key Refusal
 seen t root path = walked (map only_live t) root path
 
--- ---- all names of a path but the last, and the last
+-- ---- all names of a path except the last, and the last
 
--- all names but the last
+-- all names except the last
 abbrev pub front : List (List ℕ) → List (List ℕ)
 front [] = []
 front (name ∷ []) = []
@@ -62,7 +62,7 @@ final [] = []
 final (name ∷ []) = name
 final (name ∷ next ∷ names) = final (next ∷ names)
 
--- the names before the last, if none of them is empty, and the last, which may be
+-- the names before the last, if none of them is empty, and the last, which may be empty
 abbrev pub but_last : List (List ℕ) → Option (List (List ℕ) × List ℕ)
 but_last [] = None
 but_last (name ∷ names) =
@@ -73,7 +73,7 @@ but_last (name ∷ names) =
 abbrev pub parent_names : List ℕ → Option (List (List ℕ) × List ℕ)
 parent_names path = option_and_then (λ bytes. but_last (parts bytes)) (after_slash path)
 
--- the node of all names but the last, and the last
+-- the node that all names except the last lead to, and the last name
 abbrev pub walked_parent : Tree → Key → List ℕ → Result (Key × List ℕ) Refusal
 walked_parent t root path =
     and_then (ok_or (parent_names path) Invalid) (λ p. and_then (walk t root p.0) (λ dir. Ok (dir, p.1)))

@@ -44,7 +44,7 @@ is_hidden_record (Some r) = r.hidden
 abbrev pub hidden_count : Tree → ℕ
 hidden_count t = count_by is_hidden_record t
 
--- what has to find room later: the unlink of each doomed record, and the show of each hidden one
+-- how many later commands need room: an unlink of each doomed record, and a show of each hidden one
 abbrev pub owed_count : Tree → ℕ
 owed_count t = doomed_count t + hidden_count t
 

@@ -5,7 +5,8 @@ use Rattle.kf_core.specs.Tree.{Tree, is_linked, in_subtree}
 use Rattle.kf_core.specs.PostOrder.{StandsBefore}
 use Rattle.kf_tree.specs.declared.tour.Tour.{Tour}
 
--- of the subtree just these keys stand before the current one in post-order, and they are in that order
+-- the current key is in the subtree; exactly these linked keys of the subtree come before it in post-order,
+-- and they are in that order
 pub record IsUpTo (t : Tree) (top current : Key) (keys : List Key) : Type 0 where
   pub linked : IsTrue (is_linked t current)
   pub below : IsTrue (in_subtree t top current)
@@ -13,7 +14,7 @@ pub record IsUpTo (t : Tree) (top current : Key) (keys : List Key) : Type 0 wher
       ↔ (IsTrue (is_linked t key) × IsTrue (in_subtree t top key) × StandsBefore t key current)
   pub ordered : AllPairs (StandsBefore t) keys
 
--- the tour has passed these keys: all that stand before its node
+-- the tour has passed these keys: all that come before its node
 pub record HasPassed (t : Tree) (tour : Tour) (keys : List Key) : Type 0 where
   pub up_to : IsUpTo t tour.top tour.key keys
   pub counted : tour.passed ≡ length keys

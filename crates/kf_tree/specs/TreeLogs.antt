@@ -1,4 +1,4 @@
--- The tree with its stored commands, and what a call makes of them.
+-- The tree with its stored commands, and what a call does to them.
 use Rattle.std.specs.Prelude.{◌≡◌, ℕ, List, [], ◌∷◌, ◌++◌, length, Option, None, Some}
 use Rattle.kf_core.specs.declared.key.Key.{Key}
 use Rattle.kf_core.specs.declared.records.Record.{Record}
@@ -15,14 +15,14 @@ pub record TreeLog : Type 0 where
   pub tree : List (Option Record)  -- by slot
   -- the canonical list at the last compaction, if any, then what was accepted since
   pub commands : List Command
-  pub ready : Option Key  -- the key whose hiding has its memory, from `may_hide` to the next change
+  pub ready : Option Key  -- the key for whose hiding there is room, from `may_hide` to the next change
 
--- the tree is lawful, and the replay of its commands
+-- the tree is lawful, and it is the replay of its commands
 pub record IsKept (s : TreeLog) : Type 0 where
   pub lawful : Lawful s.tree s.root
   pub replayed : s.tree ≡ replay (root_alone (length s.tree) s.root) s.commands
 
--- only the root, and no command
+-- a tree of only the root, with this many slots and no commands
 pub record IsNew (slots : ℕ) (key : Key) (s : TreeLog) : Type 0 where
   pub root : s.root ≡ key
   pub tree : s.tree ≡ root_alone slots key
@@ -39,13 +39,13 @@ pub record IsAccepted (old new : TreeLog) (cause : Option Refusal) (command : Co
   pub not_ready : new.ready ≡ None
   pub kept : IsKept new
 
--- these commands were stored, one after another, and the tree is their replay
+-- these commands were stored, one after another, and the new tree is their replay on the old one
 pub record Stores (old new : TreeLog) (commands : List Command) : Type 0 where
   pub same_root : new.root ≡ old.root
   pub changed : new.tree ≡ replay old.tree commands
   pub stored : new.commands ≡ old.commands ++ commands
 
--- there is no cause against hiding the key, and its memory is there; nothing else changed
+-- there is no cause against hiding the key, and the key is now ready to be hidden; nothing else changed
 pub record IsReadied (old new : TreeLog) (cause : Option Refusal) (key : Key) : Type 0 where
   pub no_cause : cause ≡ None
   pub same_root : new.root ≡ old.root
@@ -53,7 +53,7 @@ pub record IsReadied (old new : TreeLog) (cause : Option Refusal) (key : Key) : 
   pub same_commands : new.commands ≡ old.commands
   pub ready : new.ready ≡ Some key
 
--- the commands are the canonical list of the tree, which stays, and is their replay
+-- the tree is as it was, the commands are its canonical list, and the tree is their replay
 pub record IsCompacted (old new : TreeLog) : Type 0 where
   pub same_root : new.root ≡ old.root
   pub same_tree : new.tree ≡ old.tree
@@ -61,7 +61,7 @@ pub record IsCompacted (old new : TreeLog) : Type 0 where
   pub not_ready : new.ready ≡ None
   pub kept : IsKept new
 
--- there was this cause, or none but lack of memory; and nothing changed
+-- the refusal is this cause or, if there is no cause, NoMemory; and nothing changed
 pub record IsRefused (old new : TreeLog) (cause : Option Refusal) (refusal : Refusal) : Type 0 where
   pub named : Refuses cause refusal
   pub unchanged : new ≡ old

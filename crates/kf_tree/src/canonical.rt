@@ -12,7 +12,7 @@ use kf_core::{Command, Key, Refusal};
 use kf_table::Table;
 use std::alloc::{AllocError, Global};
 
-/// The keys of all linked records, each before all that is below it, siblings in byte order of names.
+/// The keys of all linked records, each before all keys below it, siblings in byte order of names.
 fn pre_order(alloc: Global, table: &Table, root: Key) -> Result<Vec<Key>, AllocError>
     requires lawful { Lawful table.now root }
     ensures ordered { IfOk result (λ keys. IsPreOrder table.now keys.items) }
@@ -110,8 +110,8 @@ fn push_hides(table: &Table, keys: &[Key], commands: &mut Vec<Command>) -> Resul
     Ok(())
 }
 
-/// The canonical list, of a tree that owes this many later commands. If it owes none, no record is doomed or
-/// hidden, and only creations are looked for.
+/// The canonical list of commands of a tree that owes `later` more. If it owes none, no record is doomed or
+/// hidden, and only creations are listed.
 fn write_commands(
     alloc: Global,
     table: &Table,
@@ -133,7 +133,7 @@ fn write_commands(
     Ok(commands)
 }
 
-/// The canonical list of commands of a tree, with room for just the later ones that it owes.
+/// The canonical list of commands of a tree, with room only for the later ones that the tree owes.
 pub(crate) fn canonical_commands(
     alloc: Global,
     table: &Table,

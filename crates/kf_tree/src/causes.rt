@@ -1,4 +1,4 @@
-//! Why a call is refused, before anything grows or changes.
+//! Why a call is refused, before anything is allocated or changed.
 
 ghost use Rattle.std.specs.Prelude.{◌≡◌, Option, None, Some, Result, Ok, Err, MatchResult, true, false, not};
 ghost use Rattle.kf_core.specs.declared.key.Key.{Key};
@@ -159,7 +159,7 @@ pub(crate) fn check_hide(table: &Table, key: Key) -> Result<(), Refusal>
     Ok(())
 }
 
-/// Whether a record is to move, or why it may not. One that is there already stays.
+/// Whether a record is to move, or why it may not. A record that is there already is not to move.
 pub(crate) fn check_rename(
     table: &Table,
     root: Key,
@@ -214,7 +214,7 @@ pub(crate) fn check_list(table: &Table, dir: Key) -> Result<(), Refusal>
     Ok(())
 }
 
-/// The directory of a link and its target, or why it has no text.
+/// The directory of a link, and the target of the link, or why the key has no text.
 pub(crate) fn check_text(table: &Table, key: Key) -> Result<(Key, Key), Refusal>
     requires lawful { (root : Key) × Lawful table.now root }
     ensures checked { MatchResult result

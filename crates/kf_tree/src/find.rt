@@ -1,4 +1,4 @@
-//! The find of one name, in the whole tree or among only its live records.
+//! Finding one name, in the whole tree or only among its live records.
 
 ghost use Rattle.std.specs.Prelude.{◌≡◌, Ok, Err, IfOk, MatchResult};
 ghost use Rattle.std.specs.Option.{option_copied};
@@ -11,7 +11,7 @@ ghost use Rattle.kf_tree.specs.Shown.{shown, shown_record};
 use kf_core::{Key, Record, Refusal};
 use kf_table::{Table, is_directory, is_live};
 
-/// The record, if it is shown.
+/// The record, unless only live records count and it is not live.
 #[inline(always)]
 fn only_shown(entry: Option<&Record>, live_only: bool) -> Option<&Record>
     ensures shown { option_copied result ≡ shown_record live_only (option_copied entry.entry) }
@@ -28,8 +28,9 @@ fn only_shown(entry: Option<&Record>, live_only: bool) -> Option<&Record>
     }
 }
 
-/// What a name leads to from a directory, whose record is shown: a key and its record. The key is known
-/// before the record is read, so a walk by keys need not wait for records.
+/// What a name in a directory leads to: a key and its record. The directory's own record is passed in; if
+/// only live records count, it is live. The key is known before the record is read, so a walk by keys need
+/// not wait for records.
 #[inline(always)]
 pub(crate) fn step<'t>(
     table: &'t Table,

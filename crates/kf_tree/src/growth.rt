@@ -1,11 +1,11 @@
-//! What takes memory: names, and room for commands.
+//! What allocates memory: copies of names, and room for commands.
 
 ghost use Rattle.std.specs.Prelude.{◌≡◌, ◌≤◌, ◌<◌, ◌+◌, ◌*◌, ◌^◌, ◌++◌, ◌∷◌, [], vec_capacity, length, max, IsOk, IfOk, IfErr, OnOk};
 
 use kf_core::{Command, NameBytes, Refusal};
 use std::alloc::Global;
 
-/// A copy of a name. It takes memory only for more than 24 bytes, and is refused if there is none.
+/// A copy of a name. It allocates only for more than 24 bytes, and is refused if there is no memory.
 pub(crate) fn copy_name(alloc: Global, name: &[u8]) -> Result<NameBytes, Refusal>
     ensures made { IfOk result (λ copy. copy ≡ name.now) }
     ensures short { length name.now ≤ 24 → IsOk result }
@@ -17,8 +17,8 @@ pub(crate) fn copy_name(alloc: Global, name: &[u8]) -> Result<NameBytes, Refusal
     }
 }
 
-/// Takes room for one command, and for this many after it. A list that grows has room for twice its commands,
-/// so that they are copied seldom.
+/// Makes room for one command, and for this many after it. A list that grows gets room for at least twice its
+/// commands, so that they are seldom copied.
 pub(crate) fn make_room(commands: &mut Vec<Command>, later: usize) -> Result<(), Refusal>
     requires fits { later + 1 < 2 ^ 64 }
     ensures items { commands.new.items ≡ commands.old.items }
@@ -41,7 +41,7 @@ pub(crate) fn make_room(commands: &mut Vec<Command>, later: usize) -> Result<(),
     }
 }
 
-/// Takes room for this many later commands, and gives back what is beyond that.
+/// Makes room for this many later commands, and frees what is beyond that.
 pub(crate) fn fit_room(commands: &mut Vec<Command>, later: usize) -> Result<(), Refusal>
     ensures items { commands.new.items ≡ commands.old.items }
     ensures room { OnOk result (length commands.old.items + later ≤ vec_capacity commands.new) }
@@ -56,7 +56,7 @@ pub(crate) fn fit_room(commands: &mut Vec<Command>, later: usize) -> Result<(), 
     Ok(())
 }
 
-/// Stores a command for which there is room. It takes no memory.
+/// Stores a command for which there is room. It allocates nothing.
 pub(crate) fn store(commands: &mut Vec<Command>, command: Command)
     requires room { length commands.old.items < vec_capacity commands.old }
     ensures items { commands.new.items ≡ commands.old.items ++ command ∷ [] }

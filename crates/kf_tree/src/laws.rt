@@ -1,4 +1,4 @@
-//! What holds of the definitions that the contracts cite.
+//! Theorems about the definitions that the contracts cite.
 
 ghost use Rattle.std.specs.Prelude.{◌≡◌, ◌↔◌, ℕ, List, Option, None, false};
 ghost use Rattle.kf_core.specs.declared.key.Key.{Key};
@@ -13,9 +13,9 @@ ghost use Rattle.kf_tree.specs.Causes.{rename_cause};
 ghost use Rattle.kf_tree.specs.Links.{HasLinkText};
 ghost use Rattle.kf_tree.specs.Listing.{IsListing};
 
-/// The contracts say of a listing, a post-order, a list of commands and a link's text what each has to be,
-/// and not how it is found. There is one such result and no other, so each of these calls has its result
-/// fixed.
+/// A listing, a post-order, a canonical list of commands and the text of a link are unique. The contracts say
+/// what each of them has to be, and not how it is found. There is only one such result, so the contract of
+/// a call that returns one determines the result.
 pub fn answers_are_unique()
     // A directory has one listing above a bound, for each limit.
     ensures listing { (t : Tree) (dir : Key) (bound : Option (List ℕ)) (limit : ℕ) (a b : List (List ℕ)) →
@@ -31,8 +31,8 @@ pub fn answers_are_unique()
         HasLinkText t root key a → HasLinkText t root key b → a ≡ b }
 {}
 
-/// The rule of renames stands twice, and is one: a rename has no cause against it, and goes somewhere else,
-/// exactly if a run of the world may take it as a step.
+/// The rule for renames is stated twice, and both statements agree. A rename has no cause against it, and
+/// moves its node somewhere else, if and only if a run of the world may take it as a step.
 pub fn renames_have_one_rule()
     ensures one_rule { (t : Tree) (root key dir : Key) (name : List ℕ) → Lawful t root →
         MayMove t key dir name

@@ -1,14 +1,14 @@
 //! The plain attribute tree: linked records by slot, and the stored commands. One owner changes it.
 //!
-//! - `State::new` makes a tree of the root. Its commands are `create`, `activate`, `rename`, `doom`,
-//!   `unlink`, `hide`, `show`: each does what its definition says (`accepted`), or changes nothing and
-//!   returns the first cause in its order (`refused`). Each that was accepted is stored: the tree is the
-//!   replay of `commands`, and `compact` makes that list as short as it can be.
-//! - `lookup`, `stat`, `names`, `list`, `path_of`, `post_order` and the like look. `Tour` goes through a
-//!   subtree in post-order without memory.
+//! - `State::new` makes a tree of only the root. Its commands are `create`, `activate`, `rename`, `doom`,
+//!   `unlink`, `hide` and `show`. Each does what its definition says (`accepted`), or changes nothing and
+//!   returns the first cause in its order (`refused`). Each accepted command is stored: the tree is the
+//!   replay of `commands`. `compact` makes that list as short as it can be.
+//! - `lookup`, `stat`, `names`, `list`, `path_of`, `post_order` and others only read. A `Tour` goes through a
+//!   subtree in post-order and allocates nothing.
 //!
-//! A caller has little to prove: that the root's slot is one of the table's, and that a key that it gives
-//! to `create` is of a vacant slot. It does not know who runs in a node: `kf_shared` adds that.
+//! A caller has little to prove: that the root's slot is in the table, and that a key that it passes to
+//! `create` has a vacant slot. The tree does not know who runs in a node: `kf_shared` adds that.
 #![tactic(auto)]
 
 mod canonical;

@@ -14,7 +14,7 @@ use kf_core::{Key, Refusal};
 use kf_table::Table;
 use std::alloc::{AllocError, Global};
 
-/// The directory of a target, or the root if it has none.
+/// The directory of a target, or the root if the target has none.
 fn over_target(table: &Table, root: Key, target: Key) -> Key
     requires rooted { Lawful table.now root }
     requires linked { IsTrue (is_linked table.now target) }
@@ -28,7 +28,7 @@ fn over_target(table: &Table, root: Key, target: Key) -> Key
     }
 }
 
-/// Pushes a key, if there is one, and returns the one above it.
+/// Pushes a key, if there is one, and returns the key above it.
 fn step_up(table: &Table, key: Option<Key>, way: &mut Vec<Key>) -> Result<Option<Key>, AllocError>
     ensures above { IfOk result (λ next. next ≡ option_and_then (parent_of table.now) key) }
     ensures pushed { OnOk result (way.new.items ≡ way.old.items ++ option_to_list key) }
@@ -40,8 +40,8 @@ fn step_up(table: &Table, key: Option<Key>, way: &mut Vec<Key>) -> Result<Option
     Ok(table.parent(key))
 }
 
-/// The keys from each of two directories up to the root. Both ways are climbed at once, so that a step of one
-/// does not wait for the other's.
+/// The keys from each of two directories up to the root. Both ways are climbed in one loop, so that a step on
+/// one way does not wait for a step on the other.
 fn ways_up(
     alloc: Global,
     table: &Table,
@@ -64,7 +64,7 @@ fn ways_up(
     Ok((from, to))
 }
 
-/// On a way up, the key just above the one that stands `depth` steps below its end.
+/// The key just above the one that is `depth` steps below the end of a way up.
 fn key_above(way: &[Key], depth: usize) -> Key
     requires some { 0 < depth }
     requires within { depth < length way.now }
@@ -86,10 +86,10 @@ fn push_up(text: &mut Vec<u8>)
     text.push_reserved(b'/');
 }
 
-/// Pushes `../` for each step up from the directory to the first base over the target, and gives that base.
-/// A second way up, from the target's directory, is climbed beside it, always the deeper of the two first;
-/// its keys are pushed too, from the target up to below the base. Each way is looked up once, before, and
-/// there is room for each `../` of the whole way.
+/// Pushes `../` for each step up from the directory to the first base over the target, and returns that base.
+/// A second way up, from the target's directory, is climbed in the same loop, always the deeper of the two
+/// first. Its keys are pushed to `keys`, from the target up to the key just below the base. Both ways are
+/// looked up once, before the loop, and there is room for one `../` for each step of the whole way.
 fn push_ups(
     table: &Table,
     root: Key,
@@ -129,7 +129,7 @@ fn push_ups(
     Ok(base)
 }
 
-/// Pushes the name of a key's record, and a slash where another name follows.
+/// Pushes the name of a key's record, and a slash if another name follows.
 fn push_name(table: &Table, key: Key, last: bool, text: &mut Vec<u8>) -> Result<(), AllocError>
     ensures pushed { OnOk result
         (text.new.items ≡ text.old.items ++ (name_at table.now key ++ (if last then [] else 47 ∷ []))) }

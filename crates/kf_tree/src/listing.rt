@@ -1,4 +1,4 @@
-//! The names of live children, one after another as they stand in the index.
+//! The names of live children, one after another, in place in the index.
 
 ghost use Rattle.std.specs.Prelude.{◌≡◌, ◌∷◌, [], IfOk, IfErr, IfSome, IfNone};
 ghost use Rattle.std.specs.Option.{option_copied};
@@ -12,12 +12,12 @@ use kf_table::Table;
 use std::alloc::Global;
 use std::marker::Model;
 
-/// The names of a listing that are still to come. They lie where the tree has them, and each is looked for
-/// when it is asked for, so a listing takes no memory. Contracts see the list of the names.
+/// The names of a listing that are still to come. They stay in the tree, and each is searched for only when
+/// it is asked for, so a listing allocates nothing. In contracts it is the list of these names.
 #[derive(Drop)]
 pub struct Names<'a> {
     table: &'a Table,
-    /// The children that were not yet looked at.
+    /// The children that were not looked at yet.
     later: Listed<'a>,
     /// How many names may still come.
     limit: usize,
@@ -45,7 +45,7 @@ impl<'a> Names<'a> {
         }
     }
 
-    /// The first of them, and the others.
+    /// The first of the names, and the others, or None if no name is left.
     #[inline(always)]
     pub fn split_first(self) -> Option<(&'a Name, Names<'a>)>
         ensures split { IfSome result (λ split. self.entry ≡ split.0.now ∷ split.1) }

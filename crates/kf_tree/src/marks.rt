@@ -1,4 +1,4 @@
-//! Changes of the records of a list of keys, one after another.
+//! Changes to the records of a list of keys, one after another.
 
 ghost use Rattle.std.specs.Prelude.{◌≡◌, ◌+◌, ◌≤◌, length, if◌then◌else◌};
 ghost use Rattle.kf_core.specs.Commands.{doomed_record};

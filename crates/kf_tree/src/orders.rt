@@ -1,5 +1,5 @@
-//! A subtree in post-order or pre-order, from node to node and without a stack. A caller that goes on takes
-//! the later siblings of a node along, so that an index is searched only on the way up to a directory.
+//! Walks in post-order or pre-order, from node to node and without a stack. A caller keeps the later siblings
+//! of its node as it goes on, so that an index is searched only on the way up to a directory.
 
 ghost use Rattle.std.specs.Prelude.{◌≡◌, ◌≢◌, None, IsTrue, IfSome, IfNone};
 ghost use Rattle.kf_core.specs.declared.key.Key.{Key};
@@ -12,7 +12,7 @@ use kf_core::Key;
 use kf_index::Listed;
 use kf_table::Table;
 
-/// The siblings of a node that stand after it, by a search in the index of its directory.
+/// The siblings that come after a node, found by a search in the index of its directory.
 pub(crate) fn later_siblings(table: &Table, key: Key) -> Listed<'_>
     requires lawful { (root : Key) × Lawful table.now root }
     ensures later { AreLater table.now key result }
@@ -26,7 +26,7 @@ pub(crate) fn later_siblings(table: &Table, key: Key) -> Listed<'_>
     table.children_above(dir, Some(entry.name.bytes()))
 }
 
-/// The same for a node below the top of a walk, which ends at its top: no sibling of that is asked for.
+/// The same for a node of a walk that ends at its top. The siblings of the top are not asked for.
 pub(crate) fn later_below(table: &Table, top: Key, key: Key) -> Listed<'_>
     requires lawful { (root : Key) × Lawful table.now root }
     ensures later { key ≢ top → AreLater table.now key result }
@@ -37,7 +37,7 @@ pub(crate) fn later_below(table: &Table, top: Key, key: Key) -> Listed<'_>
     later_siblings(table, key)
 }
 
-/// Where the way down by first children ends (`kernfs_leftmost_descendant`), with its later siblings.
+/// The last node on the way down by first children (`kernfs_leftmost_descendant`), with its later siblings.
 pub(crate) fn first_below<'t>(table: &'t Table, top: Key, later: Listed<'t>) -> (Key, Listed<'t>)
     requires lawful { (root : Key) × Lawful table.now root }
     requires linked { IsTrue (is_linked table.now top) }
@@ -54,8 +54,8 @@ pub(crate) fn first_below<'t>(table: &'t Table, top: Key, later: Listed<'t>) -> 
     (current, beside)
 }
 
-/// The node after another in the post-order of a subtree that has both, with its later siblings, or None at
-/// its top (`kernfs_next_descendant_post`).
+/// The node after this one in the post-order of a subtree, with its later siblings, or None at the top of the
+/// subtree (`kernfs_next_descendant_post`).
 pub(crate) fn next_in_post_order<'t>(
     table: &'t Table,
     top: Key,
@@ -103,8 +103,8 @@ fn next_aside(table: &Table, key: Key) -> Option<(Key, Listed<'_>)>
     None
 }
 
-/// The node after a leaf in pre-order, with its later siblings: its next sibling, if there is one, without
-/// a search.
+/// The node after a leaf in pre-order, with its later siblings. If the leaf has a next sibling, that
+/// sibling is the result, and no index is searched.
 fn next_of_leaf<'t>(table: &'t Table, key: Key, later: Listed<'t>) -> Option<(Key, Listed<'t>)>
     requires lawful { (root : Key) × Lawful table.now root }
     requires linked { IsTrue (is_linked table.now key) }
@@ -126,7 +126,7 @@ fn next_of_leaf<'t>(table: &'t Table, key: Key, later: Listed<'t>) -> Option<(Ke
     }
 }
 
-/// The node after another in the pre-order of the tree, with its later siblings, or None if it is the
+/// The node after this one in the pre-order of the tree, with its later siblings, or None if this is the
 /// last.
 pub(crate) fn next_in_pre_order<'t>(
     table: &'t Table,

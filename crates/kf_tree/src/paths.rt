@@ -1,4 +1,4 @@
-//! Walks along paths, name by name, without memory and in one pass.
+//! Walks along paths, name by name, in one pass and without allocating.
 
 ghost use Rattle.std.specs.Prelude.{◌≡◌, ◌∷◌, ◌<◌, false, position, IfSome, Some, None, Ok, Err, OnOk, length, MatchResult};
 ghost use Rattle.std.specs.Option.{option_map};
@@ -20,7 +20,7 @@ fn find_slash(text: &[u8]) -> Option<usize>
     text.iter().position(|byte| *byte == b'/')
 }
 
-/// The first part of the text, and what follows its slash.
+/// The first part of the text, and what follows the slash after it, if there is one.
 fn first_part(text: &[u8]) -> (&[u8], Option<&[u8]>)
     ensures parts { slice_split is_slash text.now ≡ result.0.now
         ∷ later_parts (option_map (λ rest. rest.now) result.1) }
@@ -32,7 +32,7 @@ fn first_part(text: &[u8]) -> (&[u8], Option<&[u8]>)
     }
 }
 
-/// Whether a part is empty. It is asked only of a path that leads nowhere.
+/// Whether a part is empty. This is asked only if a path leads nowhere.
 fn has_empty_part(parts: &[u8]) -> bool
     ensures known { result ≡ list_any is_empty (slice_split is_slash parts.now) }
 {
@@ -47,8 +47,8 @@ fn has_empty_part(parts: &[u8]) -> bool
     false
 }
 
-/// What the parts lead to one after another, from a directory on, whose record is given. No node has an empty
-/// name, so they lead nowhere if one is empty.
+/// What the parts lead to, one after another, from a directory on. The directory's record is passed in. No
+/// node has an empty name, so the parts lead nowhere if one of them is empty.
 fn walk_parts(
     table: &Table,
     start: Key,
@@ -100,7 +100,7 @@ pub(crate) fn walk(table: &Table, root: Key, path: &[u8], live_only: bool) -> Re
     }
 }
 
-/// Whether a part but the last is empty.
+/// Whether a part other than the last is empty.
 fn has_empty_front(parts: &[u8]) -> bool
     ensures known { result ≡ list_any is_empty (front (slice_split is_slash parts.now)) }
 {
@@ -114,7 +114,7 @@ fn has_empty_front(parts: &[u8]) -> bool
     false
 }
 
-/// What the parts but the last lead to, and the last.
+/// What all parts except the last lead to, and the last part.
 fn walk_front<'a>(
     table: &Table,
     start: Key,
@@ -148,7 +148,7 @@ fn walk_front<'a>(
     }
 }
 
-/// The node of all names of a path but the last, and the last.
+/// The node that all names of a path except the last lead to, and the last name.
 pub(crate) fn walk_parent<'a>(
     table: &Table,
     root: Key,

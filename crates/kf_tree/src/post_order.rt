@@ -30,7 +30,7 @@ fn keys_below(alloc: Global, table: &Table, top: Key) -> Result<Vec<Key>, AllocE
     Ok(keys)
 }
 
-/// The keys of the subtree of a linked key, each after all that is below it, siblings in byte order of names.
+/// The keys of the subtree of a linked key, each after all keys below it, siblings in byte order of names.
 pub(crate) fn post_order(alloc: Global, table: &Table, top: Key) -> Result<Vec<Key>, Refusal>
     requires lawful { (root : Key) × Lawful table.now root }
     requires linked { IsTrue (is_linked table.now top) }

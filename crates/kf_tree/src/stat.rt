@@ -13,9 +13,9 @@ use kf_table::Table;
 #[derive(Clone, Copy, Debug, PartialEq, Eq)]
 pub struct Stat {
     pub node: Node,
-    /// The child directories, live or not. 0 for a file or link.
+    /// The number of child directories, live or not. It is 0 for a file or a link.
     pub subdirs: u32,
-    /// Two more than that; one for a file or link.
+    /// The number of links: two more than `subdirs` for a directory, 1 for a file or a link.
     pub links: u32,
     pub activated: bool,
     pub doomed: bool,

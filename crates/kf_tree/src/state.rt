@@ -24,25 +24,26 @@ use kf_table::Table;
 use std::alloc::Global;
 use std::marker::Model;
 
-/// The records by slot, and the stored commands. Contracts see the root's key, the tree, the commands, and
-/// the key that is ready to be hidden.
-/// The tree is always lawful, and the replay of the commands from only the root.
+/// A tree: its records by slot, and its stored commands. Contracts see the root's key, the tree, the
+/// commands, and the key that is ready to be hidden.
+/// The tree is always lawful, and always the replay of the commands from a tree of only the root.
 ///
-/// All memory that a command needs is taken before anything changes, so a refused one leaves all as it was.
-/// [`State::unlink`], [`State::hide`] and [`State::show`] take none: the list keeps room for what they store.
+/// A command allocates all memory that it needs before it changes anything, so a refused command leaves all
+/// as it was. [`State::unlink`], [`State::hide`] and [`State::show`] allocate nothing: the list keeps room
+/// for what they store.
 pub struct State {
     alloc: Global,
     root: Key,
     table: Table,
     commands: Vec<Command>,
-    /// How many later commands have their room in the list: an unlink of each doomed record, a show of each
+    /// For how many later commands the list keeps room: an unlink of each doomed record, and a show of each
     /// hidden one.
     owed: usize,
-    /// The key that `may_hide` has made ready, until the next change.
+    /// The key that `may_hide` has made ready to be hidden, until the next change.
     ready: Option<Key>,
 }
 
-/// Dropped here: so no crate that drops a tree proves once more that each of its parts is dropped.
+/// Written out, so that a crate that drops a tree need not prove again that each of its parts is dropped.
 impl Drop for State {
     fn drop(self) {
         let State {
@@ -72,8 +73,8 @@ impl Model for State {
 }
 
 impl State {
-    /// The tree of only the root, with places for this many slots. The root is a live directory.
-    /// `NoMemory` if the table could not be had.
+    /// A tree of only the root, with this many slots. The root is a live directory. `NoMemory` if there is no
+    /// memory for the table.
     ///
     /// Condition: the root's slot is in the table.
     pub fn new(alloc: Global, limits: Limits, root: Key) -> Result<State, Refusal>
@@ -92,15 +93,17 @@ impl State {
         })
     }
 
-    /// Links a new record in a directory, under the next key, activated if it is to be live
+    /// Links a new record in a directory, under the next key, and activates it if it is to be live
     /// (`kernfs_create_dir_ns`, `__kernfs_create_file`, `kernfs_create_link`).
-    /// Refusals in order: `NoEntry` (parent not linked), `NameTooLong` or `Invalid` (name), `NotDir`,
-    /// `NoEntry` (parent doomed), `NoEntry` (a link's target is not linked), `Invalid` (it is the root),
-    /// `Exists`, `NoSpace` (no next key), `NoMemory`. After a refusal nothing is changed.
+    /// Refusals in order: `NoEntry` (the parent is not linked), `NameTooLong` or `Invalid` (the name),
+    /// `NotDir`, `NoEntry` (the parent is doomed), `NoEntry` (a link's target is not linked), `Invalid` (the
+    /// target is the root), `Exists`, `NoSpace` (there is no next key), `NoMemory`. After a refusal nothing
+    /// is changed.
     ///
     /// Condition: the next key's slot is in the table and has no linked node, as [`State::is_vacant`] says.
-    /// Its generation must be fresh: the state keeps no key of what was unlinked, so under a generation that
-    /// the slot had before, a key or link that somebody kept of the old node would name the new one.
+    /// The key's generation must also be fresh. The state does not remember the keys of unlinked nodes. So if
+    /// the slot had this generation before, a key or a link that somebody kept of the old node would name the
+    /// new one.
     pub fn create(
         &mut self,
         parent: Key,
@@ -123,10 +126,11 @@ impl State {
         Ok(key)
     }
 
-    /// [`State::create`] under this key, for a caller that has asked [`State::create_fault`] already. The
-    /// only refusal is `NoMemory`; after it nothing is changed.
+    /// Like [`State::create`], but under this key, for a caller that has already called
+    /// [`State::create_fault`]. The only refusal is `NoMemory`; after it nothing is changed.
     ///
-    /// Condition: nothing is wrong with the new record, as `create_fault` says. The key is as `create` asks.
+    /// Condition: nothing is wrong with the new record, as `create_fault` says. The key is as `create`
+    /// requires.
     pub fn create_under(
         &mut self,
         key: Key,
@@ -180,8 +184,8 @@ impl State {
         self.activate_in_order(key, &order)
     }
 
-    /// [`State::activate`] for a caller that has the post-order of the subtree already, as
-    /// [`State::post_order`] gives it.
+    /// Like [`State::activate`], but the caller passes in the post-order of the subtree, as
+    /// [`State::post_order`] returns it.
     /// Refusals in order: `NoEntry` (not linked), `NoMemory`. After a refusal nothing is changed.
     ///
     /// Condition: the order is the post-order of the key's subtree.
@@ -200,11 +204,12 @@ impl State {
         Ok(())
     }
 
-    /// Moves a record into a directory, under a name (`kernfs_rename_ns`). One that is there already under
-    /// that name stays, nothing is stored, and no memory is taken.
-    /// Refusals in order: `Invalid` (the root), `NoEntry` (either is not linked), `NameTooLong` or `Invalid`
-    /// (name), `NotDir`, `NoEntry` (either is not live); if it is not there already, `Invalid` (the
-    /// directory is in the record's own subtree), `Exists`, `NoMemory`. After a refusal nothing is changed.
+    /// Moves a record into a directory, under a name (`kernfs_rename_ns`). If the record is there already
+    /// under that name, it stays, nothing is stored, and nothing is allocated.
+    /// Refusals in order: `Invalid` (the record is the root), `NoEntry` (the record or the directory is not
+    /// linked), `NameTooLong` or `Invalid` (the name), `NotDir`, `NoEntry` (the record or the directory is
+    /// not live); if the record is not there already, `Invalid` (the directory is in the record's own
+    /// subtree), `Exists`, `NoMemory`. After a refusal nothing is changed.
     pub fn rename(&mut self, key: Key, dir: Key, name: &[u8]) -> Result<(), Refusal>
         ensures no_cause { IfOk result
             (λ _. rename_cause self.old.tree self.old.root key dir name.now ≡ None) }
@@ -225,7 +230,7 @@ impl State {
         Ok(())
     }
 
-    /// The move of a record that is not there already, where nothing is against it. The only refusal is
+    /// Moves a record that is not there already, and whose move has no cause against it. The only refusal is
     /// `NoMemory`; after it nothing is changed.
     fn move_away(&mut self, key: Key, dir: Key, name: &[u8]) -> Result<(), Refusal>
         requires no_cause { rename_cause self.old.tree self.old.root key dir name.now ≡ None }
@@ -250,10 +255,10 @@ impl State {
         Ok(())
     }
 
-    /// Dooms each node of the subtree, and gives their keys: each after all that is below it, siblings in
-    /// byte order of names, the given key last (the marking half of `kernfs_remove`). The doom of a doomed
-    /// node is accepted and stored. Refusals in order: `NoEntry` (not linked), `Invalid` (the root),
-    /// `NoMemory`. After a refusal nothing is changed.
+    /// Dooms each node of the subtree, and returns their keys: each after all keys below it, siblings in byte
+    /// order of names, the given key last (the marking half of `kernfs_remove`). The doom of a node that is
+    /// doomed already is accepted and stored too. Refusals in order: `NoEntry` (not linked), `Invalid` (the
+    /// root), `NoMemory`. After a refusal nothing is changed.
     pub fn doom(&mut self, key: Key) -> Result<Vec<Key>, Refusal>
         ensures accepted { IfOk result (λ _.
             IsAccepted self.old self.new (doom_cause self.old.tree self.old.root key) (Doom key)) }
@@ -268,8 +273,8 @@ impl State {
         Ok(order)
     }
 
-    /// [`State::doom`] for a caller that has the post-order of the subtree already, as [`State::post_order`]
-    /// gives it.
+    /// Like [`State::doom`], but the caller passes in the post-order of the subtree, as [`State::post_order`]
+    /// returns it.
     /// Refusals in order: `NoEntry` (not linked), `Invalid` (the root), `NoMemory`. After a refusal nothing
     /// is changed.
     ///
@@ -290,10 +295,10 @@ impl State {
         Ok(())
     }
 
-    /// Takes a doomed record without linked children out, and returns whether the key was linked
-    /// (`kernfs_unlink_sibling` in `__kernfs_remove`). It needs no memory. Refusals in order, of a linked
-    /// key: `Invalid` (not doomed), `Busy` (a linked child). After a refusal, and after it returns false,
-    /// nothing is changed.
+    /// Takes a doomed record without linked children out of the tree, and returns whether the key was linked
+    /// (`kernfs_unlink_sibling` in `__kernfs_remove`). It allocates nothing. Refusals in order, of a linked
+    /// key: `Invalid` (it is not doomed), `Busy` (it has a linked child). After a refusal, and after it
+    /// returns false, nothing is changed.
     pub fn unlink(&mut self, key: Key) -> Result<bool, Refusal>
         ensures linked { IfOk result (λ unlinked. is_linked self.old.tree key ≡ unlinked) }
         ensures accepted { IfOk result (λ unlinked. MatchBool unlinked
@@ -313,8 +318,9 @@ impl State {
         Ok(linked)
     }
 
-    /// Makes the state ready to hide a file, until its next change: takes the memory for that and for the
-    /// show after it, or says why the node may not be hidden. The tree and the commands stay.
+    /// Makes the state ready to hide a file, until the state's next change. It allocates the memory for the
+    /// hiding and for the show after it, or says why the node may not be hidden. The tree and the commands
+    /// stay as they are.
     /// Refusals in order: `NoEntry` (not linked), `IsDir`, `Invalid` (a link), `NoEntry` (doomed), `Busy`
     /// (hidden), `NoMemory`. After a refusal nothing is changed.
     pub fn may_hide(&mut self, key: Key) -> Result<(), Refusal>
@@ -329,10 +335,11 @@ impl State {
         Ok(())
     }
 
-    /// Hides a file (`kernfs_show` with `show` false): it is linked as before, but not live, so neither
-    /// `lookup` nor `list` finds it, and it cannot be moved. It takes no memory and refuses nothing.
+    /// Hides a file (`kernfs_show` with `show` false). The file is linked as before, but it is not live:
+    /// neither `lookup` nor `list` finds it, and it cannot be moved. This allocates nothing, and refuses
+    /// nothing.
     ///
-    /// Condition: [`State::may_hide`] made the state ready for this key, and nothing changed since.
+    /// Condition: [`State::may_hide`] made the state ready for this key, and nothing has changed since.
     pub fn hide(&mut self, key: Key)
         requires ready { self.old.ready ≡ Some key }
         ensures accepted { IsAccepted self.old self.new (hide_cause self.old.tree key) (Hide key) }
@@ -344,8 +351,8 @@ impl State {
     }
 
     /// Shows a hidden file again (`kernfs_show` with `show` true), and returns whether the key was linked and
-    /// hidden; if not, nothing is changed. A file that was activated or doomed while it was hidden is then
-    /// so. It takes no memory and refuses nothing.
+    /// hidden. If it was not, nothing is changed. A file that was activated or doomed while it was hidden
+    /// stays so. This allocates nothing, and refuses nothing.
     pub fn show(&mut self, key: Key) -> bool
         ensures told { result ≡ hidden_in self.old.tree key }
         ensures accepted { MatchBool result
@@ -362,12 +369,13 @@ impl State {
         hidden
     }
 
-    /// Puts the canonical list of this tree in place of the stored commands: in pre-order a creation of each
-    /// record but the root, then a doom of the top of each doomed subtree, then a hiding of each hidden
-    /// record, siblings in byte order of names. Its replay is this tree. Tree, indexes, counts and keys stay,
-    /// and the list has just the room that a later unlink of each doomed record and a show of each hidden one
-    /// needs. It bounds the memory of the list: else that grows with every command. The only refusal is
-    /// `NoMemory`; after it nothing is changed.
+    /// Replaces the stored commands with the canonical list of this tree. The list has first a creation of
+    /// each record except the root, then a doom of the top of each doomed subtree, then a hiding of each
+    /// hidden record. Each of these three parts is in pre-order, with siblings in byte order of names. The
+    /// replay of this list is this tree. The tree, its indexes, counts and keys stay as they are. After its
+    /// commands, the list has only the room that a later unlink of each doomed record and a show of each
+    /// hidden one need. So the memory of the list is bounded; otherwise it grows with every command. The only
+    /// refusal is `NoMemory`; after it nothing is changed.
     pub fn compact(&mut self) -> Result<(), Refusal>
         ensures compacted { IfOk result (λ _. IsCompacted self.old self.new) }
         ensures refused { IfErr result (λ refusal. (refusal ≡ Refusal.NoMemory) × (self.new ≡ self.old)) }

@@ -2,14 +2,14 @@
 
 use kf_core::Key;
 
-/// A place on a tour of a subtree in post-order: each node after all that is below it, siblings in byte order
-/// of names, the top last. It holds no loan of the tree, and goes on in it by `State::tour_on`.
+/// A place on a tour of a subtree in post-order: each node after all nodes below it, siblings in byte order
+/// of names, the top last. It does not borrow the tree. `State::tour_on` moves it to the next node.
 #[derive(Clone, Copy, Debug, PartialEq, Eq)]
 pub struct Tour {
     /// The node whose subtree is toured.
     pub top: Key,
     /// The node that the tour is at.
     pub key: Key,
-    /// How many nodes it has passed.
+    /// How many nodes the tour has passed.
     pub passed: u32,
 }

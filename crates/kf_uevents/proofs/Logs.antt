@@ -1,24 +1,24 @@
--- A list of events with one event more, and with several.
+-- A list of events after one more event, and after several more.
 use Rattle.std.proofs.Common.{◌≡◌, refl, ap, sym, ◌∙◌, subst, arith, ℕ, ◌+◌, ◌-◌, ◌<◌, ◌≤◌, List, [], ◌∷◌, ◌++◌, drop, length}
 use Rattle.std.proofs.lemmas.List.{append-nil, append_assoc, drop-append-le, drop-drop, drop_all, length-drop, length_push}
 use Rattle.kf_uevents.specs.declared.uevent.Uevent.{Uevent}
 use Rattle.kf_uevents.specs.Logs.{LogState, IsLogOf, Told, told_count}
 
--- how many events there were is how many are all of them
+-- the count of events is the number of all events that were ever reported
 pub counted : (all : List Uevent) (s : LogState) → IsLogOf all s → told_count s ≡ length all
 counted all s l =
     let kept : length s.kept ≡ length all - s.first = ap length l.ends ∙ length-drop s.first all in
     let begins = l.begins in
     omega arith
 
--- at most as many are kept as there is room for
+-- the events that are kept fit into the room
 pub few : (all : List Uevent) (s : LogState) → IsLogOf all s → length s.kept ≤ s.room
 few all s l =
     let kept : length s.kept ≡ length all - s.first = ap length l.ends ∙ length-drop s.first all in
     let begins = l.begins in
     omega arith
 
--- with no room none is kept
+-- without room, a new event is counted but not kept
 pub none_kept : (all : List Uevent) (event : Uevent) (s s' : LogState) → IsLogOf all s → s.room ≡ 0 → s'.room ≡ s.room → s'.first ≡ s.first + 1 → s'.kept ≡ s.kept
     → IsLogOf (all ++ event ∷ []) s'
 none_kept all event s s' l none room first kept =
@@ -29,8 +29,7 @@ none_kept all event s s' l none room first kept =
       ends = kept ∙ l.ends ∙ drop_all s.first all (omega arith) ∙ sym (drop_all s'.first (all ++ event ∷ []) (omega arith));
     }
 
--- with room the last ones are kept, and the first of those is dropped if they are as many as there is room
--- for
+-- with room, the new event is kept, and the oldest one is dropped if as many are kept as there is room for
 pub one_more : (all : List Uevent) (event : Uevent) (gone : ℕ) (s s' : LogState) → IsLogOf all s → 0 < s.room → s'.room ≡ s.room → gone ≡ length s.kept + 1 - s.room → s'.first ≡ s.first + gone
     → s'.kept ≡ drop gone s.kept ++ event ∷ [] → IsLogOf (all ++ event ∷ []) s'
 one_more all event gone s s' l some room going first kept =
@@ -48,7 +47,7 @@ one_more all event gone s s' l some room going first kept =
 pub none_told : (s : LogState) → Told s s []
 none_told s = record { room = refl; told = λ all l. subst (λ xs. IsLogOf xs s) (sym (append-nil all)) l }
 
--- events were reported, and then others
+-- some events were reported, and then others
 pub more_told : (a b c : LogState) (xs ys : List Uevent) → Told a b xs → Told b c ys → Told a c (xs ++ ys)
 more_told a b c xs ys first then = record {
   room = then.room ∙ first.room;

@@ -1,4 +1,4 @@
--- The path of a node that was moved.
+-- What the path of a node is after a move.
 use Rattle.std.proofs.Common.{◌≡◌, ◌≢◌, inl, inr, ℕ, suc, ◌≤◌, refl, ap, arith, sym, ◌∙◌, subst, Bool, true, false, cond, List, [], ◌∷◌, ◌++◌, length}
 use Rattle.std.specs.Prelude.{Option, None, Some, Result, Ok, Err, nat_le}
 use Rattle.std.specs.List.{join_with_byte}
@@ -37,7 +37,7 @@ err-ok : (e : Refusal) (a : Key) → ◌≡◌ {A = Result Key Refusal} (Err e) 
 err-ok e a h = cc
 
 module _ (t : Tree) (root : Key) (l : Lawful t root) where
-  -- what is found in a directory is a record there of that name
+  -- what is found in a directory under a name is a record there with that name
   found_is : (dir : Key) (name : List ℕ) (key : Key) → found t dir name ≡ Ok key → (r : Record) × (IsIn t r) × (r.key ≡ key) × (r.parent ≡ Some dir) × (r.name ≡ name)
   found_is dir name key h = in_dir (record_at t dir) h
     where
@@ -59,7 +59,7 @@ module _ (t : Tree) (root : Key) (l : Lawful t root) where
     | Err refusal ↦ λ e g. absurd (err-ok refusal target g)
   ] refl h
 
-  -- a walk leads down
+  -- a walk leads down, so some number of steps up leads back
   walked_down : (names : List (List ℕ)) (base target : Key) → walk t base names ≡ Ok target → (n : ℕ) × (ancestor t n target ≡ Some base)
   walked_down [] base target h = (0, ap Some (sym (same_Ok base target h)))
   walked_down (name ∷ names) base target h =
@@ -68,7 +68,7 @@ module _ (t : Tree) (root : Key) (l : Lawful t root) where
       let w = walked_down names f.0 target f.2 in
       (suc w.0, one_more t w.0 target f.0 base w.1 (ap (parent_of t) (sym r.2) ∙ parent_known t r.0 r.1 ∙ r.3)))
 
-  -- the first name of a walk that arrives has a byte
+  -- the first name of a walk that arrives is not empty
   first_named : (base : Key) (name : List ℕ) (names : List (List ℕ)) (target : Key) → walk t base (name ∷ names) ≡ Ok target → 1 ≤ length name
   first_named base name names target h =
       (let f = first_found base name names target h in
@@ -76,19 +76,20 @@ module _ (t : Tree) (root : Key) (l : Lawful t root) where
       let d = l.in_directory r.0 base r.1 r.3 in
       subst (λ n. 1 ≤ length n) r.4 d.lawful_name.some)
 
-  -- one name more leads on
+  -- one more name leads on from the node that the walk has reached
   walk_on : (names : List (List ℕ)) (base dir key : Key) (name : List ℕ) → walk t base names ≡ Ok dir → found t dir name ≡ Ok key → walk t base (names ++ name ∷ []) ≡ Ok key
   walk_on [] base dir key name h f = ap (λ k. and_then (found t k name) (λ next. Ok next)) (same_Ok base dir h) ∙ ap (λ r. and_then r (λ next. Ok next)) f
   walk_on (first ∷ names) base dir key name h f =
       (let s = first_found base first names dir h in
       ap (λ r. and_then r (λ next. walk t next (names ++ name ∷ []))) s.1 ∙ walk_on names s.0 dir key name s.2 f)
 
--- names and one more, joined
+-- joining one more name adds a slash and that name
 joined_more : (first : List ℕ) (names : List (List ℕ)) (name : List ℕ) → join_with_byte 47 ((first ∷ names) ++ name ∷ []) ≡ join_with_byte 47 (first ∷ names) ++ 47 ∷ name
 joined_more first [] name = refl
 joined_more first (second ∷ names) name = ap (λ xs. first ++ 47 ∷ xs) (joined_more second names name) ∙ sym (append_assoc first (47 ∷ join_with_byte 47 (second ∷ names)) (47 ∷ name))
 
--- the names lead to a directory by this path: those and one more are spelled as the path of a name in it
+-- if these names lead to a directory and spell this path, then they and one more name spell the path of that
+-- name in the directory
 spelled_in : (t : Tree) (root dir : Key) (l : Lawful t root) (names : List (List ℕ)) (name path : List ℕ) → walk t root names ≡ Ok dir → path ≡ 47 ∷ join_with_byte 47 names
     → path_in path name ≡ 47 ∷ join_with_byte 47 (names ++ name ∷ [])
 spelled_in t root dir l [] name path h e = rw e refl
@@ -115,14 +116,14 @@ module _ (t : Tree) (root key dir : Key) (name : List ℕ) (l : Lawful t root) (
   abbrev moved : Tree
   moved = mapped t move same
 
-  -- another key has the record that it had
+  -- another key still has its record
   other_kept : (k : Key) (r : Record) → record_at t k ≡ Some r → k ≢ key → record_at moved k ≡ Some r
   other_kept k r e other = find_mapped t move same k ∙ ap (option_map move) e ∙ ap Some (elim (keys_tell r.key key) [
     | inl h ↦ absurd (other (sym (found_in t k r e).1 ∙ h.1))
     | inr h ↦ ap (λ b. cond b (moved_record dir name r) r) h.0
   ])
 
-  -- the key has the record that was moved
+  -- the key has the moved record
   this_moved : record_at moved key ≡ Some (moved_record dir name m.moving)
   this_moved = find_mapped t move same key ∙ ap (option_map move) m.found ∙ ap Some (elim (keys_tell m.moving.key key) [
     | inl h ↦ ap (λ b. cond b (moved_record dir name m.moving) m.moving) h.0
@@ -136,13 +137,13 @@ module _ (t : Tree) (root key dir : Key) (name : List ℕ) (l : Lawful t root) (
       let no : false ≡ true = sym m.not_below ∙ ap (in_subtree t key) (sym at.1) ∙ i in
       cc)
 
-  -- a record stands under its name in the directory that it has in the new tree
+  -- in the new tree, a record is found under its name in its directory
   found_there : (k d : Key) (r : Record) → record_at moved k ≡ Some r → r.parent ≡ Some d → found moved d r.name ≡ Ok k
   found_there k d r e p =
       (let named : name_at moved k ≡ r.name = ap (λ o. option_map_or (λ (x : Record). x.name) o []) e in
       ap (found moved d) (sym named) ∙ found_child moved root l' k d (ap (λ o. option_and_then (λ (x : Record). x.parent) o) e ∙ p))
 
-  -- the way to the directory stays
+  -- the names that led to the directory still lead to it
   way_kept : (names : List (List ℕ)) (base : Key) → walk t base names ≡ Ok dir → walk moved base names ≡ Ok dir
   way_kept [] base h = h
   way_kept (first ∷ names) base h =
@@ -158,7 +159,7 @@ module _ (t : Tree) (root key dir : Key) (name : List ℕ) (l : Lawful t root) (
   moved_path path new (names, leads, spelled) e =
       (names ++ name ∷ [], walk_on moved root l' names root dir key name (way_kept names root leads) (found_there key dir (moved_record dir name m.moving) this_moved refl), e ∙ spelled_in t root dir l names name path leads spelled)
 
--- a move that nothing was against reports the path that the node had, and the one that it has since
+-- a move without a cause against it reports the path that the node had before, and the path that it has now
 pub told_move : (old new : TreeLog) (key dir : Key) (name : List ℕ) (event : Uevent) (cause : Option Refusal) → Lawful old.tree old.root → rename_cause old.tree old.root key dir name ≡ None
     → is_there_already old.tree key dir name ≡ false → IsAccepted old new cause (Rename key dir name) → IsToMove old.tree old.root key dir name event
     → IsMoveOf old.tree new.tree old.root key event

@@ -13,19 +13,19 @@ use Rattle.kf_uevents.specs.declared.uevent.Action.TheVariants.{Add, Remove, Cha
 use Rattle.kf_uevents.specs.declared.uevent.Uevent.{Uevent}
 use Rattle.kf_uevents.specs.Logs.{LogState, IsUsedUp, Told}
 
--- whether a node of these marks is reported: an activation adds what was not active, a removal removes what
--- was, and neither reports a doomed node
+-- whether a node with these marks is reported. An activation reports a node that was not activated, and a
+-- removal one that was, and neither reports a doomed node. A change and a move are always reported
 abbrev pub tells : Action → NodeFlags → Bool
 tells Add m = not m.activated && not m.doomed
 tells Remove m = m.activated && not m.doomed
 tells Change m = true
 tells Move m = true
 
--- whether the tree has the key, and its node is reported
+-- whether the tree has the key, and its node is reported for this action
 abbrev pub is_told : Tree → Action → Key → Bool
 is_told t action key = option_map_or (tells action) (marks_of t key) false
 
--- an event of this action, with the path that its node has in the tree
+-- an event of this action, with the path that its node has in the tree, and without an old path
 pub record IsEventOf (t : Tree) (root : Key) (action : Action) (event : Uevent) : Type 0 where
   pub acts : event.action ≡ action
   pub path : IsPathOf t root event.key event.path.items
@@ -42,12 +42,12 @@ abbrev pub NewsTold : Tree → Key → Action → List Key → LogState → LogS
 NewsTold t root action keys old new = (events : List Uevent) × AreNews t root action keys events
     × Told old new events
 
--- one event of this action was reported, of this node
+-- one event of this action was reported, for this node
 abbrev pub OneTold : Tree → Key → Action → Key → LogState → LogState → Type 0
 OneTold t root action key old new = (event : Uevent) × (event.key ≡ key) × IsEventOf t root action event
     × Told old new (event ∷ [])
 
--- there was this cause; or none, and there was no memory, or no number was left
+-- this was the cause; or there was no cause, and either there was no memory or no number was left
 abbrev pub TellRefused : LogState → Option Refusal → Refusal → Type 0
 TellRefused log cause refusal =
     Refuses cause refusal ⊎ ((cause ≡ None) × (refusal ≡ NoSpace) × IsUsedUp log)

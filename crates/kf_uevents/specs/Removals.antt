@@ -8,7 +8,7 @@ use Rattle.kf_tree.specs.TreeLogs.{TreeLog}
 use Rattle.kf_shared.specs.Receipts.{KeyRefused}
 use Rattle.kf_uevents.specs.Logs.{LogState, IsUsedUp}
 
--- the removal itself is refused; or nothing is against the doom of the node, and no number was left
+-- the removal itself is refused; or there is no cause to refuse the doom of the node, but no number was left
 abbrev pub RemoveRefused : LogState → TreeLog → Key → Refusal → Type 0
 RemoveRefused log s key refusal = KeyRefused s key refusal
     ⊎ ((doom_cause s.tree s.root key ≡ None) × (refusal ≡ NoSpace) × IsUsedUp log)

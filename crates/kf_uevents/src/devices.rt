@@ -1,8 +1,8 @@
-//! Devices: a directory with its attribute groups reports one `add` and one `remove`, as `device_add` and
-//! `device_del` do. The files in it are not reported.
+//! Devices: a directory with its attribute groups gets one `add` and one `remove`, as with `device_add` and
+//! `device_del`. The files in it are not reported.
 //!
-//! A device below another one has its own events. Remove it first: the removal of the upper directory reports
-//! only the upper one.
+//! A device below another device has its own events. Remove it first: the removal of the upper directory
+//! reports only the upper device.
 ghost use Rattle.std.specs.Prelude.{◌≡◌, IfErr, IfOk, OnErr, OnOk};
 ghost use Rattle.kf_core.specs.declared.command.Command.TheVariants.{Activate, Doom};
 ghost use Rattle.kf_core.specs.PostOrder.{IsPostOrder};
@@ -23,8 +23,8 @@ use kf_core::{Key, Refusal};
 use kf_groups::{Group, create_directory, take_back};
 use kf_shared::{Editor, Naming, Removing};
 
-/// Activates the directory of a device with all in it, as [`Editor::activate`] does, and reports one `add` of
-/// the directory. If it was active or doomed before, nothing is reported.
+/// Activates the directory of a device and all in it, as [`Editor::activate`] does, and reports one `add` of
+/// the directory. If the directory was activated or doomed before, nothing is reported.
 ///
 /// Refusals, in order: NoEntry (not linked), then NoSpace (2^63 events were reported) or NoMemory. After a
 /// refusal the tree is as before, and nothing is reported.
@@ -55,12 +55,12 @@ pub fn activate_device<N: Naming>(
 }
 
 /// Adds a device (`device_add`): creates its directory under this name, with the groups in it, makes all of
-/// that live at once, and reports one `add` of the directory. Returns its key. Raise the number on which the
-/// listeners sleep once the locks are released ([`crate::notify_listeners`]).
+/// that live at once, and reports one `add` of the directory. Returns the directory's key. Once the locks are
+/// released, raise the number on which the listeners sleep ([`crate::notify_listeners`]).
 ///
-/// Refusals, in order: NoSpace (2^63 events were reported), those of [`create_directory`], NoMemory. Nothing
-/// is reported after a refusal. Unless it is NoMemory the tree is as it was, with more commands stored and
-/// generations used; after NoMemory some of the nodes may stay, not reported.
+/// Refusals, in order: NoSpace (2^63 events were reported), those of [`create_directory`], NoMemory. After a
+/// refusal, nothing is reported. Unless the refusal is NoMemory, the tree is as it was, but more commands may
+/// be stored and generations used. After NoMemory some of the nodes may stay, without being reported.
 pub fn add_device<N: Naming>(
     editor: &mut Editor<'_, N>,
     log: &mut UeventLog,
@@ -84,12 +84,12 @@ pub fn add_device<N: Naming>(
     Ok(key)
 }
 
-/// Begins the removal of the directory of a device with all in it, as [`Editor::begin_removal_of`] does, and
-/// reports one `remove` of the directory, with the path that it had. If it was not active, or its removal was
-/// begun before, nothing is reported.
+/// Begins the removal of the directory of a device and all in it, as [`Editor::begin_removal_of`] does, and
+/// reports one `remove` of the directory, with the path that it had. If the directory was not activated, or
+/// its removal had begun before, nothing is reported.
 ///
-/// The event is in the list before anybody can take the lock again, so before another device of this name can
-/// be added. Callbacks that run already may go on until [`Removing::finish`] returns.
+/// The event is in the list before anybody else can take the tree's lock, so before another device of this
+/// name can be added. Callbacks that already run may go on until [`Removing::finish`] returns.
 ///
 /// Refusals, in order: NoEntry (not linked), Invalid (the root), then NoSpace (2^63 events were reported),
 /// TooManyHolds or NoMemory, whichever is met first. After a refusal nothing is marked, and nothing is

@@ -1,4 +1,4 @@
-//! A listener reads events on from where it was, and sleeps until there are more.
+//! Listeners, which read one event after another, and sleep until there are more.
 ghost use Rattle.std.specs.Prelude.{◌≡◌, ◌<◌, List};
 ghost use Rattle.std.specs.Sync.RwLock.{read_guard_value};
 ghost use Rattle.kf_uevents.specs.declared.uevent.Uevent.{Uevent};
@@ -9,11 +9,11 @@ use kf_notify::Post;
 use std::marker::Model;
 use std::sync::{RwLock, RwLockReadGuard, Wait};
 
-/// Reads the events of a list, each once. To a contract it is the number of the event that it reads next.
+/// Reads the events of a list, each one once. In contracts it is the number of the event that it reads next.
 ///
-/// It sleeps on the event number of its post's slot. Whoever adds events to the list raises that number
-/// afterwards, by `Posts::notify` of the slot. No file may have that slot: the slot of the tree's root will
-/// do.
+/// It sleeps on the event number of its post's slot. A thread that adds events to the list must raise that
+/// number afterwards, by `Posts::notify` for this slot. No file may have that slot, so use the slot of the
+/// tree root.
 #[derive(Drop)]
 pub struct Listener {
     post: Post,
@@ -28,8 +28,8 @@ impl Model for Listener {
     ghost view = { λ s. s.next };
 }
 
-/// What a listener looks at: a list of events behind its lock. A test has another one, which adds an event
-/// between two steps of [`Listener::wait`].
+/// What a listener looks at: a list of events behind its lock. A test has its own implementation, which adds
+/// an event between two steps of [`Listener::wait`].
 pub trait Look {
     /// Locks the list for reading.
     fn look<'a, R: Wait>(&'a self, rt: &R) -> RwLockReadGuard<'a, UeventLog>;
@@ -41,9 +41,10 @@ impl Look for RwLock<UeventLog> {
     }
 }
 
-// Sleeps until an event has the number, and locks the list for reading. It takes the slot's number first, and
-// then looks at the list. So an event that is added after the look changes the number that it sleeps on, and
-// no wake is lost: `tests/models/wake.py` tries every order of these steps.
+// Sleeps until there is an event with this number, and returns the list, locked for reading. It loads the
+// slot's event number first, and then looks at the list. So if an event is added after the look, its notify
+// changes the event number on which this thread sleeps, and no wake is lost. `tests/models/wake.py` tries
+// every order of these steps.
 fn wait_for<'a, L: Look, R: Wait>(
     rt: &R,
     log: &'a L,
@@ -65,14 +66,15 @@ fn wait_for<'a, L: Look, R: Wait>(
 }
 
 impl Listener {
-    /// A listener that reads the event of this number first: [`UeventLog::count`] is that of the next event.
+    /// Makes a listener that first reads the event with this number. [`UeventLog::count`] is the number of
+    /// the next event.
     pub fn new(post: Post, next: u64) -> Listener
         ensures next { result ≡ next }
     {
         Listener { post, next }
     }
 
-    /// What comes next, once. After a loss it goes on at the first event that is kept.
+    /// Reads what comes next, once. After a loss, the listener goes on at the first event that is kept.
     pub fn read<'a>(&mut self, log: &'a UeventLog) -> Reading<'a>
         ensures read { (all : List Uevent) → IsLogOf all log.now →
             IsReading all log.now.room self.old result }
@@ -87,14 +89,15 @@ impl Listener {
         reading
     }
 
-    /// Sleeps until there is something to read, an event or a loss. Returns the list, locked for reading:
-    /// [`Listener::read`] finds the event or the loss there. It may never return. No clause says that it
-    /// wakes: tests show it.
+    /// Sleeps until there is something to read, an event or a loss, and returns the list, locked for reading.
+    /// [`Listener::read`] finds the event or the loss there. `wait` may never return. No clause says that the
+    /// thread wakes up, but tests show it.
     ///
-    /// Drop the guard before you lock the list again, lock the tree or wait: a thread that reports an event
-    /// has the tree's lock, and waits for the list's.
+    /// Drop the guard before you lock the list again, lock the tree, or wait. A thread that reports an event
+    /// has the tree's lock, and waits for the list's lock.
     ///
-    /// Context: sleeps; takes the list's lock, which its caller must not have, and returns with it.
+    /// Context: sleeps; takes the list's lock, which the caller must not hold, and returns with that lock
+    /// taken.
     pub fn wait<'a, L: Look, R: Wait>(
         &mut self,
         rt: &R,

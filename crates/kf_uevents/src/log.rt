@@ -1,4 +1,4 @@
-//! The list of all events, of which the last are kept.
+//! The list of all events, of which the last ones are kept.
 ghost use Rattle.std.specs.Prelude.{◌≡◌, ◌+◌, ◌-◌, ◌^◌, ◌<◌, ◌≤◌, [], ◌∷◌, List, drop, length, IfErr, IfOk, OnOk};
 ghost use Rattle.std.specs.VecDeque.{deque_capacity};
 ghost use Rattle.kf_core.specs.declared.refusal.Refusal.TheVariants as refusal_of;
@@ -11,20 +11,20 @@ use std::alloc::Global;
 use std::collections::VecDeque;
 use std::marker::Model;
 
-/// What stands at a number.
+/// What a reader finds at a number.
 #[derive(Clone, Copy, Debug)]
 pub enum Reading<'a> {
     /// The event of this number, and the number of the next.
     Next { event: &'a Uevent, then: u64 },
-    /// The event of this number is no longer kept (`ENOBUFS` of netlink). The first that is has number
-    /// `from`.
+    /// The event of this number is no longer kept (`ENOBUFS` of netlink). A reader goes on at `from`, the
+    /// number of the first event that is kept, or of the next event if none is kept.
     Lost { from: u64 },
     /// No event has this number yet.
     NoneYet,
 }
 
-/// All events of a tree, in the order in which they came about. The number of each is its place among them,
-/// from 0 on, and stays. The last ones are kept, as many as there is room for.
+/// All events of a tree, in the order in which they happened. An event's number is its place among them,
+/// counted from 0, and never changes. The last events are kept, as many as there is room for.
 #[derive(Drop)]
 pub struct UeventLog {
     alloc: Global,
@@ -45,7 +45,7 @@ impl Model for UeventLog {
         (deque_capacity s.kept) };
 }
 
-// Drops the first kept event if there is no room for one more. How many were dropped.
+// Drops the first kept event if there is no room for one more, and returns how many events were dropped.
 fn make_place(kept: &mut VecDeque<Uevent>, room: usize) -> u64
     requires some { 0 < room }
     requires few { length kept.old.items ≤ room }
@@ -62,8 +62,8 @@ fn make_place(kept: &mut VecDeque<Uevent>, room: usize) -> u64
 }
 
 impl UeventLog {
-    /// The list without an event, with room for this many. It takes all memory for keeping events now. With
-    /// no room none is kept, but all are counted.
+    /// Makes an empty list, with room for this many events. All memory for the list itself is allocated now.
+    /// If there is no room, no event is kept, but all events are counted.
     ///
     /// Refusal: NoMemory.
     pub fn new(alloc: Global, room: usize) -> Result<UeventLog, Refusal>
@@ -80,7 +80,7 @@ impl UeventLog {
         })
     }
 
-    /// How many events there were, which is the number of the next.
+    /// Returns how many events there were, which is the number of the next event.
     pub fn count(&self) -> u64
         ensures counted { (all : List Uevent) → IsLogOf all self.now → result ≡ length all }
         ensures known { result ≡ told_count self.now }
@@ -88,8 +88,8 @@ impl UeventLog {
         self.first + self.kept.len() as u64
     }
 
-    /// What stands at this number. A reader goes on at the number that is returned; if there
-    /// is none yet, at the same.
+    /// Returns what a reader finds at this number. The reader goes on at the number that is returned. If
+    /// there is no event yet, it goes on at the same number.
     pub fn read_from(&self, number: u64) -> Reading<'_>
         ensures read { (all : List Uevent) → IsLogOf all self.now →
             IsReading all self.now.room number result }
@@ -108,12 +108,13 @@ impl UeventLog {
         Reading::NoneYet
     }
 
-    /// Where memory for events comes from.
+    /// The allocator for the memory of events.
     pub(crate) fn alloc(&self) -> Global {
         self.alloc
     }
 
-    /// Refuses once 2^63 events were reported, so that numbers do not run out within the events of a change.
+    /// Refuses once 2^63 events were reported, so that numbers cannot run out in the middle of the events of
+    /// a change.
     pub(crate) fn check_numbers(&self) -> Result<(), Refusal>
         ensures left { OnOk result (told_count self.now < 2 ^ 63) }
         ensures refused { IfErr result
@@ -126,7 +127,7 @@ impl UeventLog {
         }
     }
 
-    /// Reports one event. It takes no memory.
+    /// Reports one event. It allocates nothing.
     ///
     /// Condition: a number is left.
     pub(crate) fn push(&mut self, event: Uevent)
@@ -142,9 +143,9 @@ impl UeventLog {
         let _ = self.kept.push_back(event);
     }
 
-    /// Reports these events, one after another. It takes no memory.
+    /// Reports these events, one after another. It allocates nothing.
     ///
-    /// Condition: numbers are left.
+    /// Condition: fewer than 2^63 events were reported.
     pub(crate) fn push_all(&mut self, events: Vec<Uevent>)
         requires left { told_count self.old < 2 ^ 63 }
         ensures told { Told self.old self.new events.items }

@@ -18,7 +18,7 @@ use kf_shared::{Editor, Naming};
 use kf_tree::State;
 use std::alloc::AllocError;
 
-// Makes the path of a directory that of a name in it.
+// Makes the path of a name in a directory from the directory's path.
 fn extend_path(path: &mut Vec<u8>, name: &[u8]) -> Result<(), AllocError>
     ensures extended { OnOk result (path.new.items ≡ path_in path.old.items name.now) }
 {
@@ -29,7 +29,7 @@ fn extend_path(path: &mut Vec<u8>, name: &[u8]) -> Result<(), AllocError>
     Ok(())
 }
 
-// The event of a move that nothing is against.
+// Makes the event of a move. The node and the directory are linked.
 fn move_of(state: &State, key: Key, dir: Key, name: &[u8]) -> Result<Uevent, Refusal>
     requires linked { linked_cause state.now.tree key ≡ None }
     requires directory { linked_cause state.now.tree dir ≡ None }
@@ -48,11 +48,12 @@ fn move_of(state: &State, key: Key, dir: Key, name: &[u8]) -> Result<Uevent, Ref
     })
 }
 
-/// Moves a node into a directory, under a name, as [`Editor::rename`] does, and reports it, with the path
-/// that it had and the one that it has. If it is there already nothing is stored, and nothing is reported.
+/// Moves a node into a directory under a name, as [`Editor::rename`] does, and reports the move, with the
+/// node's old path and its new one. If the node is there already, nothing is stored, and nothing is reported.
 ///
-/// Refusals, in order: those of [`Editor::rename`] but NoMemory, then, if it is not there already, NoSpace
-/// (2^63 events were reported) or NoMemory. After a refusal the tree is as before, and nothing is reported.
+/// Refusals, in order: those of [`Editor::rename`] except NoMemory, then, if the node is not there already,
+/// NoSpace (2^63 events were reported) or NoMemory. After a refusal the tree is as before, and nothing is
+/// reported.
 pub fn rename_and_tell<N: Naming>(
     editor: &mut Editor<'_, N>,
     log: &mut UeventLog,

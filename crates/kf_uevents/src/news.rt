@@ -1,4 +1,4 @@
-//! The events of a change, with the paths that its nodes have.
+//! The events of a change, with the paths of its nodes.
 ghost use Rattle.std.specs.Prelude.{◌≡◌, ◌++◌, ◌∷◌, [], List, None, IfErr, IfOk, OnOk};
 ghost use Rattle.kf_core.specs.declared.key.Key.{Key};
 ghost use Rattle.kf_core.specs.declared.refusal.Refusal.TheVariants as refusal_of;
@@ -24,7 +24,7 @@ fn marks_of(state: &State, key: Key) -> Option<NodeFlags>
     }
 }
 
-// Whether a node of these marks is reported.
+// Whether a node with these marks is reported for this action.
 fn tells(action: Action, marks: NodeFlags) -> bool
     ensures known { result ≡ tells action marks }
 {
@@ -35,7 +35,7 @@ fn tells(action: Action, marks: NodeFlags) -> bool
     }
 }
 
-/// Whether the tree has the key, and its node is reported.
+/// Whether the tree has the key, and its node is reported for this action.
 pub(crate) fn is_told(state: &State, action: Action, key: Key) -> bool
     ensures known { result ≡ is_told state.now.tree action key }
 {
@@ -45,7 +45,7 @@ pub(crate) fn is_told(state: &State, action: Action, key: Key) -> bool
     }
 }
 
-/// An event of a node, with the path that it has.
+/// Makes the event of a node, with the path that the node has.
 pub(crate) fn event_of(state: &State, action: Action, key: Key) -> Result<Uevent, Refusal>
     ensures no_cause { OnOk result (linked_cause state.now.tree key ≡ None) }
     ensures keyed { IfOk result (λ event. event.key ≡ key) }
@@ -61,7 +61,7 @@ pub(crate) fn event_of(state: &State, action: Action, key: Key) -> Result<Uevent
     })
 }
 
-// Adds an event of a node that is reported.
+// Adds the event of a node, if the node is reported.
 fn add_event(
     state: &State,
     action: Action,
@@ -81,7 +81,7 @@ fn add_event(
     Ok(())
 }
 
-/// An event for each of these keys that is reported, in their order.
+/// Makes an event for each of these keys that is reported, in their order.
 ///
 /// Refusal: NoMemory.
 pub(crate) fn events_of(

@@ -1,4 +1,4 @@
-//! A device is removed by one call, which reports it, wakes all that sleep, and waits.
+//! The removal of a device by one call, which reports it, wakes all threads that sleep, and waits.
 ghost use Rattle.std.specs.Prelude.{◌≡◌, ◌++◌, [], ◌∷◌, IfErr, IfOk, OnErr};
 ghost use Rattle.kf_files.specs.Telling.{WasTold, WereTold};
 ghost use Rattle.kf_notify.specs.PostStates.{id_of};
@@ -15,9 +15,9 @@ use kf_shared::{Editor, Naming};
 use kf_words::Parted;
 use std::sync::{RwLock, Wait};
 
-/// Raises the event number of the slot of this key, if there is one. With the key of the root it wakes each
-/// [`crate::Listener`] that sleeps on the slot of the root. It takes no memory. Call it after an event was
-/// added to the list, once the list is unlocked.
+/// Raises the event number of the slot of this key, if the slot has one. With the root's key it wakes each
+/// [`crate::Listener`] that sleeps on the root's slot. It allocates nothing. Call it after an event was added
+/// to the list, once the list is unlocked.
 #[tactic(auto, using(crate::proofs::Reported::woken_by, crate::proofs::Reported::woken_nobody))]
 pub fn notify_listeners(posts: &mut Posts, root: Key)
     ensures told { WasTold posts.old root.slot posts.new }
@@ -28,17 +28,18 @@ pub fn notify_listeners(posts: &mut Posts, root: Key)
     }
 }
 
-/// Removes a device (`device_del`): its directory with all in it, as [`Editor::remove_key`] does. One
-/// `remove` of the directory is reported, by [`begin_device_removal`], under both locks. Then it unlocks, and
-/// wakes the threads that sleep until a file there changes and the listeners, which sleep on the slot of the
-/// tree's root. Last it waits until no callback runs on any of the nodes, and takes them out of the tree:
-/// when it returns none runs, and none will start. The receipts are in post-order, the directory's own last.
+/// Removes a device (`device_del`): its directory and all in it, as [`Editor::remove_key`] does.
+/// [`begin_device_removal`] reports one `remove` of the directory, under both locks. Then `remove_device`
+/// unlocks both. It wakes the threads that sleep until a file there changes, and the listeners, which sleep
+/// on the root's slot. Finally it waits until no callback runs on any of the nodes, and takes the nodes
+/// out of the tree. When it returns, no callback runs on them, and none will start. The receipts are in
+/// post-order, with the directory's own last.
 ///
-/// Refusals: those of [`begin_device_removal`]. After a refusal nothing is marked, reported or woken, and the
-/// tree is unlocked.
+/// Refusals: those of [`begin_device_removal`]. After a refusal nothing is marked or reported, nobody is
+/// woken, and the tree is unlocked.
 ///
-/// Context: takes the lock of the list under that of the tree; sleeps, once it has unlocked both, and locks
-/// the tree again if a node was in use.
+/// Context: takes the list's lock under the tree's lock; sleeps once it has unlocked both, and locks the tree
+/// again.
 pub fn remove_device<N: Naming, R: Wait>(
     editor: Editor<'_, N>,
     rt: &R,

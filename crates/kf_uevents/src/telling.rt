@@ -1,4 +1,4 @@
-//! Changes of a tree that report their events, under the tree's one lock.
+//! Changes of a tree that report their events, under the tree's lock.
 ghost use Rattle.std.specs.Prelude.{◌≡◌, List, reverse, IfErr, IfOk, OnErr, OnOk};
 ghost use Rattle.kf_core.specs.declared.command.Command.TheVariants.{Activate, Doom};
 ghost use Rattle.kf_core.specs.declared.key.Key.{Key};
@@ -17,8 +17,8 @@ use crate::uevent::Action;
 use kf_core::{Key, Refusal};
 use kf_shared::{Editor, Naming, Removing};
 
-/// Activates each node of the subtree that is not doomed, as [`Editor::activate`] does, and reports each
-/// that was not active: it is added. Each is reported after what is above it.
+/// Activates each node of the subtree that is not doomed, as [`Editor::activate`] does, and reports an `add`
+/// of each that was not activated before. A node is reported after those above it.
 ///
 /// Refusals, in order: NoEntry (not linked), then NoSpace (2^63 events were reported) or NoMemory. After a
 /// refusal the tree is as before, and nothing is reported.
@@ -47,9 +47,9 @@ pub fn activate_and_tell<N: Naming>(
     Ok(())
 }
 
-/// Begins the removal of the node of this key, as [`Editor::begin_removal_of`] does, and reports each node
-/// that was active and was not doomed before: it is removed, from the path that it had. Each is reported
-/// after all that is below it.
+/// Begins the removal of the node of this key, as [`Editor::begin_removal_of`] does, and reports a `remove`
+/// of each node of the subtree that was activated and not doomed before. An event has the path that its node
+/// had. A node is reported after those below it.
 ///
 /// Refusals, in order: NoEntry (not linked), Invalid (the root), then NoSpace (2^63 events were reported),
 /// TooManyHolds or NoMemory, whichever is met first. After a refusal nothing is marked, and nothing is

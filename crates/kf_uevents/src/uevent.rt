@@ -3,20 +3,20 @@
 use kf_core::Key;
 use std::fmt;
 
-/// What became of a node (`enum kobject_action`).
+/// What happened to a node (`enum kobject_action`).
 #[derive(Clone, Copy, Debug, PartialEq, Eq)]
 pub enum Action {
     /// It was activated (`KOBJ_ADD`).
     Add,
-    /// Its removal was begun (`KOBJ_REMOVE`).
+    /// Its removal has begun (`KOBJ_REMOVE`).
     Remove,
     /// Its owner has reported a change (`KOBJ_CHANGE`).
     Change,
-    /// It was moved, or got another name (`KOBJ_MOVE`).
+    /// It was moved or renamed (`KOBJ_MOVE`).
     Move,
 }
 
-/// The word of the kernel (`ACTION`).
+/// The kernel's word for the action (`ACTION`).
 impl fmt::Display for Action {
     fn fmt<W: fmt::Write>(&self, f: &mut fmt::Formatter<W>) -> fmt::Result {
         let text = match self {
@@ -29,12 +29,12 @@ impl fmt::Display for Action {
     }
 }
 
-/// One event: what became of a node, which node it was, and its path as that was at the event (`DEVPATH`).
+/// One event: what happened to a node, the node's key, and its path at that time (`DEVPATH`).
 #[derive(Debug, Drop)]
 pub struct Uevent {
     pub action: Action,
     pub key: Key,
-    /// The node's path: of a removal the one that it had before, of a move the one that it has since.
+    /// The node's path. For a removal it is the path before the removal, for a move the path after the move.
     pub path: Vec<u8>,
     /// The path that a moved node had before (`DEVPATH_OLD`); other events have none.
     pub from: Option<Vec<u8>>,

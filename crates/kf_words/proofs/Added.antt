@@ -1,4 +1,4 @@
--- What a step of the Master makes of the history: its own note comes next, if it adds one.
+-- A step of the Master appends its own note to the history, and leaves the history as it was if it has none.
 use Rattle.std.proofs.Common.{◌≡◌, [], ◌++◌, ap, ◌∙◌}
 use Rattle.std.proofs.lemmas.List.{append-nil}
 use Rattle.kf_words.specs.TableSteps.{StepKind}

@@ -1,4 +1,5 @@
--- The two ends of a try, of a look, and of a look whether the node has left.
+-- The two outcomes of a try, of a look for the drain, of a look whether the node has left, of a hide, and of
+-- a look for users while hiding.
 use Rattle.std.proofs.Common.{◌≡◌, ℕ, true, false, if◌then◌else◌, Bool, ap}
 use Rattle.kf_core.specs.declared.caller.Phase.TheVariants.{Turned, Running, Drained, Parted, Hiding, Hidden}
 use Rattle.kf_words.specs.declared.view.CallerView.{CallerView}

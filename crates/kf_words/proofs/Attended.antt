@@ -1,5 +1,5 @@
--- A step of the Master that was shown such a caller is an event: a node is taken out by a drained caller, and a hold
--- of a linked or held node gets its seat.
+-- What attended steps do to the world: taking out a node on which a caller is drained is an Unlink, and
+-- giving a seat to a hold of a linked or held node is a Pin.
 use Rattle.std.proofs.Common.{◌≡◌, ◌≢◌, ◌⊎◌, inl, inr, ℕ, true, List, [], ◌∷◌, ◌++◌, length, set, sym, ap, ◌∙◌, subst, ⊎_elim}
 use Rattle.std.proofs.lemmas.Option.{get_or_from_slice_get}
 use Rattle.std.specs.Prelude.{is_some}
@@ -23,7 +23,7 @@ use Rattle.kf_words.proofs.Coming.{spent_world}
 use Rattle.kf_words.proofs.Events.{unlink_is_unlink}
 use Rattle.kf_words.proofs.WordSteps.{IsEvent, Alone, TakenOut, Came, Passed, at, met, world_is, split_pins, linked_pins, held_pins, with_spent, word_step}
 
--- a node taken out while a caller is drained on it is an Unlink by that caller
+-- a step that takes out a node while a caller is drained on it is an Unlink by that caller
 pub unlink_event : (slots limit : ℕ) (t : Table) (slot : ℕ) (t' : Table) → Shown slots limit t → WordStep t (unlinks slot) t' → (j : ℕ) → IsDrainedOn t slot j → BareStep (world t) (Unlink j) (world t')
 unlink_event slots limit t slot t' g s j lent =
     let m : MasterView = s.0 in
@@ -40,7 +40,7 @@ unlink_event slots limit t slot t' g s j lent =
     (subst (λ (i : ℕ). BareStep (bare_world m g.callers) (Unlink j) (bare_world (without_node i m) g.callers)) lent.2
     (unlink_is_unlink slots limit t k j c its lent.3 there)))
 
--- a hold that gets its seat while its slot has a linked node, or another who holds it, is a Pin
+-- the step that gives a hold its seat is a Pin if a node is linked in the slot or a caller holds the slot
 pub pin_event : (slots limit : ℕ) (t : Table) (slot : ℕ) (t' : Table) → Shown slots limit t → WordStep t (splits slot) t' → IsPinnable t slot → (e : Event) × BareStep (world t) e (world t')
 pin_event slots limit t slot t' g s may =
     let m : MasterView = s.0 in
@@ -54,7 +54,8 @@ pin_event slots limit t slot t' g s may =
           may) s.4,
     )
 
--- the root's key may be pinned while it is linked or held
+-- if the Master adds a seat that holds nothing, the world gets a spent caller; the key of this caller may be
+-- pinned if the root's slot has a linked node or a holder
 root_pins : (slots limit : ℕ) (t t' : Table) → Shown slots limit t → WordStep t answers t' → IsPinnable t 0 → (key : Key) × MayPin (world t) key × (world t' ≡ with_spent (world t) key)
 root_pins slots limit t t' g s may =
     let m : MasterView = s.0 in
@@ -76,11 +77,12 @@ root_pins slots limit t t' g s may =
       is' ∙ spent_world m g.callers key ∙ ap (λ (x : BareWorld). with_spent x key) (sym is),
     )
 
--- the world stays, or an event leads on, or a caller comes to a key that may be pinned and gives its hold back
+-- the world stays, or an event leads to the next one, or a caller pins a key that may be pinned and releases
+-- its hold at once
 abbrev pub Attends : BareWorld → BareWorld → Type 0
 Attends w w' = (w' ≡ w) ⊎ (((e : Event) × BareStep w e w') ⊎ ((key : Key) × MayPin w key × (w' ≡ with_spent w key)))
 
--- an attended step does one of these, if it gives no seat to a hold that a caller counted
+-- an attended step does one of these three things, unless a caller hands on a hold that it counted
 pub attended_event : (slots limit : ℕ) (t : Table) (kind : StepKind) (t' : Table) → Shown slots limit t → WordStep t kind t' → IsAttended t kind → ((j : ℕ) → kind ≢ hands_on j) → Attends (world t) (world t')
 attended_event slots limit t kind t' h s may other = ⊎_elim
     (λ (same : world t' ≡ world t). inl same)

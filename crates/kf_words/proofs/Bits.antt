@@ -1,4 +1,4 @@
--- What a word says of its slot.
+-- What a word says about its slot.
 use Rattle.std.proofs.Common.{◌≡◌, ◌≢◌, ◌⊎◌, inl, inr, ℕ, ◌+◌, ◌*◌, ◌/◌, ◌%◌, ◌-◌, ◌<◌, ◌≤◌, ◌||◌, zero, suc, Bool, true, false, not, refl, sym, ap, ◌∙◌, subst, eq-eqb, ne_eqb, bit_and, arith}
 use Rattle.std.specs.Prelude.{Option, None, Some, is_some, IsTrue}
 use Rattle.std.proofs.lemmas.Nat.{bit_set_by_shift, and_mask, and_or_self, or_disjoint}
@@ -32,7 +32,7 @@ has_bias_of true false n h small = eq-eqb _ _ (omega arith)
 has_bias_of false true n h small = ne_eqb _ _ (λ e. omega arith)
 has_bias_of false false n h small = ne_eqb _ _ (λ e. omega arith)
 
--- the bit of a hidden key, if one caller hides it, and if none does
+-- HIDE is set if one caller hides the key, and clear if none does
 has_hide_one : (b d : Bool) (n h : ℕ) → n ≤ 65535 → h ≡ 1 → has_hide (n + bit b bias + bit d doom + h * hide) ≡ true
 has_hide_one b d n h small one = let x = bit≤ b bias in let y = bit≤ d doom in eq-eqb _ _ (omega arith)
 
@@ -43,11 +43,11 @@ pub not_not : (b : Bool) → not (not b) ≡ b
 not_not true = refl
 not_not false = refl
 
--- bias is clear exactly if the node has the marks of a live one
+-- BIAS is clear if and only if the node has the marks of a live one
 pub bias_shows : (word : ℕ) (o : Option NodeFlags) (n h : ℕ) → n ≤ 65535 → ShowsMarks word o n h → has_bias word ≡ not (are_live o)
 bias_shows word o n h small s = ap has_bias s.1 ∙ has_bias_of (not (are_live o)) s.0 n h small
 
--- hide is set exactly if a caller hides the key
+-- HIDE is set if and only if a caller hides the key
 pub hide_set : (word : ℕ) (o : Option NodeFlags) (n h : ℕ) → n ≤ 65535 → ShowsMarks word o n h → 1 ≤ h → has_hide word ≡ true
 hide_set word o n h small s one = let most = s.3 in ap has_hide s.1 ∙ has_hide_one (not (are_live o)) s.0 n h small (omega arith)
 
@@ -87,7 +87,7 @@ drained_shows word o n h small s e =
     let x = drained_of (not (are_live o)) s.0 n h small (elim which [ inl y ↦ inl (sym s.1 ∙ y) | inr y ↦ inr (sym s.1 ∙ y) ]) in
     (x.0, doomed_by o (λ linked. sym (s.2 linked) ∙ x.1))
 
--- a word that is not used has no user
+-- an unused word counts no user
 unused_of : (b d : Bool) (n h : ℕ) → n ≤ 65535 → (n + bit b bias + bit d doom + h * hide) % bias ≡ 0 → n ≡ 0
 unused_of true true n h small e = omega arith
 unused_of true false n h small e = omega arith
@@ -97,7 +97,7 @@ unused_of false false n h small e = omega arith
 pub unused_shows : (word : ℕ) (o : Option NodeFlags) (n h : ℕ) → n ≤ 65535 → ShowsMarks word o n h → is_unused word ≡ true → n ≡ 0
 unused_shows word o n h small s e = unused_of (not (are_live o)) s.0 n h small (sym (ap (λ (w : ℕ). w % bias) s.1) ∙ eqb-true (word % bias) 0 e)
 
--- one user more, and one less, in the arithmetic of 64 bits
+-- one more user, and one fewer, in 64-bit arithmetic
 pub one_more : (word : ℕ) (o : Option NodeFlags) (n m h : ℕ) → n ≤ 65535 → m ≡ n + 1 → ShowsMarks word o n h → ShowsMarks ((word + 1) % 18446744073709551616) o m h
 one_more word o n m h few e s =
     let small = word_small (not (are_live o)) s.0 n h few s.3 in
@@ -110,7 +110,7 @@ one_less word o n m h few e s =
     let is = s.1 in
     (s.0, omega arith, s.2, s.3)
 
--- the bit of a hidden key, tested and masked
+-- whether HIDE is set, and what masking the word with HIDE gives
 no_hide : (n : ℕ) → bit_and n hide ≡ 0 → has_hide n ≡ false
 no_hide n e = ne_eqb _ _ (λ one. (bit_set_by_shift n 34).0 (and_mask (n / 17179869184) 1 ∙ one) e)
 
@@ -131,7 +131,7 @@ set_and n e =
     let whole : bit_or (n - hide) hide ≡ n = or_disjoint (n - hide) hide (clear_and (n - hide) clear) ∙ omega arith in
     subst (λ (k : ℕ). bit_and k hide ≡ hide) whole (and_or_self hide (n - hide))
 
--- the bit of a hidden key comes, and goes
+-- setting HIDE in a word that did not have it counts one more caller that hides the key
 pub hide_comes : (word : ℕ) (o : Option NodeFlags) (n h h' : ℕ) → n ≤ 65535 → ShowsMarks word o n h → has_hide word ≡ false → h' ≡ h + 1 → ShowsMarks (bit_or word hide) o n h'
 hide_comes word o n h h' few s clear more =
     let none : h ≡ 0 = hiders_none word o n h few s clear in
@@ -139,14 +139,14 @@ hide_comes word o n h h' few s clear more =
     let is = s.1 in
     (s.0, or_disjoint word hide apart ∙ ap (λ (w : ℕ). w + hide) s.1 ∙ omega arith, s.2, omega arith)
 
--- set again, it changes nothing
+-- setting HIDE again changes nothing
 pub hide_again : (word : ℕ) → has_hide word ≡ true → word < 18446744073709551616 → bit_or word hide ≡ word
 hide_again word set small =
     let all : bit_and word hide ≡ hide = set_and word set in
     let sum : bit_or word hide + bit_and word hide ≡ word + hide = or_add_and word hide in
     omega arith
 
--- the word without it
+-- taking HIDE off leaves a word that counts no caller that hides the key
 pub hide_taken : (word : ℕ) (o : Option NodeFlags) (n h : ℕ) → n ≤ 65535 → ShowsMarks word o n h → h ≡ 1 → ShowsMarks (word - hide) o n 0
 hide_taken word o n h few s one = let is = s.1 in (s.0, omega arith, s.2, omega arith)
 
@@ -178,7 +178,7 @@ waiting_is Spent e = absurd (let x : false ≡ true = e in cc)
 pub counted_is : (p : Phase) → has_reference p ≡ true → p ≢ Spent
 counted_is p e x = let y : has_reference Spent ≡ true = subst (λ (q : Phase). has_reference q ≡ true) x e in cc
 
--- what a hold word says of its slot
+-- what a hold word says about its slot
 count_of : (b : Bool) (g n : ℕ) → n ≤ 65535 → (g * 4294967296 + bit b linked + n) % 2147483648 ≡ n
 count_of true g n h = omega arith
 count_of false g n h = omega arith
@@ -203,12 +203,12 @@ linked_of false g n h = ne_eqb _ _ (λ e. omega arith)
 pub linked_shows : (limit word : ℕ) (place : SlotState) (n : ℕ) → limit ≤ 65535 → ShowsHolds limit word place n → has_linked word ≡ is_some place.marks
 linked_shows limit word place n few s = let small = s.1 in ap has_linked s.0 ∙ linked_of (is_some place.marks) place.generation n (omega arith)
 
--- one hold less
+-- one hold fewer
 pub hold_less : (limit word : ℕ) (place : SlotState) (n m : ℕ) → word < 18446744073709551616 → n ≡ m + 1 → ShowsHolds limit word place n → ShowsHolds limit ((word + 18446744073709551615) % 18446744073709551616) place m
 hold_less limit word place n m small e s = let is = s.0 in let few = s.1 in let b : ℕ = bit (is_some place.marks) linked in let g : ℕ = place.generation in let is' : word ≡ g * 4294967296 + b + n = is in
     let now : (word + 18446744073709551615) % 18446744073709551616 ≡ g * 4294967296 + b + m = omega arith in (now, omega arith)
 
--- one hold more, if the word is below 2 ^ 64
+-- one more hold, if the word is below 2 ^ 64 and the slot has room
 pub hold_more : (limit word : ℕ) (place : SlotState) (n : ℕ) → limit ≤ 65535 → word < 18446744073709551616 → n < limit → ShowsHolds limit word place n → ShowsHolds limit ((word + 1) % 18446744073709551616) place (n + 1)
 hold_more limit word place n few small room s = let is = s.0 in let g : ℕ = place.generation in (more (is_some place.marks) g n word few small room is, omega arith)
   where
@@ -246,7 +246,7 @@ no_doom n e = ne_eqb _ _ (λ one. (bit_set_by_shift n 33).0 (and_mask (n / 85899
 some_doom : (n : ℕ) → bit_and n doom ≢ 0 → has_doom n ≡ true
 some_doom n ne = eq-eqb _ _ (sym (and_mask (n / 8589934592) 1) ∙ (bit_set_by_shift n 33).1 ne)
 
--- the tests in the code
+-- each test of a bit, as the code writes it with a mask, says whether the bit is set
 pub has_doom_test : (n : ℕ) → not (nat_eq (bit_and n doom) 0) ≡ has_doom n
 has_doom_test n = elim (eqb_tells (bit_and n doom) 0) [
   | inl e ↦ ap not e.0 ∙ sym (no_doom n e.1)
@@ -271,6 +271,6 @@ has_linked_test n = elim (eqb_tells (bit_and n linked) 0) [
   | inr e ↦ ap not e.0 ∙ sym (some_linked n e.1)
 ]
 
--- in a slot that is free no node is linked
+-- no node is linked in a free slot
 pub free_unlinked : (n : ℕ) → IsFree n → has_linked n ≡ false
 free_unlinked n free = let a = free.0 in ne_eqb _ _ (λ e. omega arith)

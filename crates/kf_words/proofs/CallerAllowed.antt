@@ -1,4 +1,4 @@
--- The steps of a caller, as the table asks for them.
+-- The table allows each step of a caller.
 use Rattle.std.proofs.Common.{◌≡◌, ◌≢◌, ℕ, ◌+◌, ◌-◌, ◌%◌, ◌^◌, ◌<◌, bit_or, length, true, false, List, [], set, get_or, refl, sym, ap, ◌∙◌, subst}
 use mathlib.Core.Option.{some, none}
 use lib.ListN.{get_elem?}
@@ -20,11 +20,12 @@ use Rattle.kf_words.proofs.CallerSteps.{try_owes, undo_owes, leave_owes, break_o
 use Rattle.kf_words.proofs.HidingSteps.{hide_owes, look_hidden_owes, show_owes, show_finds}
 use Rattle.kf_words.proofs.HoldSteps.{release_owes, part_owes, miss_owes}
 
--- no play of a caller reads the step
+-- any step will do here, since no play of a caller reads it
 abbrev pub no_step : Step (Unit {0})
 no_step = step 0 0 0 0 none
 
--- what a step of a caller with this view owes, if the word i of a table of this many words becomes f of what it was
+-- what must be proved of a step of a caller with this view that changes word i by f, if the table has this
+-- many slots
 abbrev pub Owes : ℕ → CallerView → ℕ → (ℕ → ℕ) → (ℕ → CallerView → CallerView) → Type 0
 Owes count c i f after =
     (words : List ℕ) (m : MasterView) (cs : List CallerView) (j : ℕ) → length m.slots ≡ count → Shows words m cs → get_elem? cs j ≡ some c → get_or words i 0 < 18446744073709551616
@@ -49,7 +50,7 @@ allows count limit homes id me i f after is owes t h _ at small =
       refl,
     )
 
--- the steps on the active word, as the table asks for them
+-- the table allows each step on the active word
 module _ (count limit homes id : ℕ) (me : Seated) (i : ℕ) (is : me ≡ (seat.Caller (caller_of me.0), [])) (its : active_index (caller_of me.0).key.slot ≡ i) where
   abbrev c : CallerView
   c = caller_of me.0
@@ -73,7 +74,7 @@ module _ (count limit homes id : ℕ) (me : Seated) (i : ℕ) (is : me ≡ (seat
   show_moves : IsInPhase Hidden c → Allows (Shown count limit) homes id me i (λ n. (n + (2 ^ 64 - hide)) % 2 ^ 64) (CallerBecomes after_show no_step me)
   show_moves is_in = here (λ n. (n + (2 ^ 64 - hide)) % 2 ^ 64) after_show (λ words m cs j shows at. show_owes words m cs j c shows at (λ e. let x : Hidden ≡ Spent = sym is_in.0 ∙ e in cc) is_in.0 is_in.1)
 
-  -- the bit was set
+  -- HIDE is set in the active word of a Hidden caller
   hidden_set : IsInPhase Hidden c → (t : State (Unit {0}) View) → Shown count limit t → get_elem? t.views id ≡ some me.0 → has_hide (get_or t.words i 0) ≡ true
   hidden_set is_in t h at =
       let at' : get_elem? (seats h.master h.callers) id ≡ some (seat.Caller c) = subst (λ (l : List View). get_elem? l id ≡ some (seat.Caller c)) h.views (at ∙ ap (λ (x : Seated). some x.0) is) in
@@ -101,7 +102,7 @@ module _ (count limit homes id : ℕ) (me : Seated) (i : ℕ) (is : me ≡ (seat
   pub restore_allowed : IsInPhase Broken c → Allows (Shown count limit) homes id me i (λ n. (n + 1) % 2 ^ 64) (CallerBecomes after_restore no_step me)
   restore_allowed is_in = here (λ n. (n + 1) % 2 ^ 64) after_restore (λ words m cs j shows at. restore_owes words m cs j c shows at (λ e. let x : Broken ≡ Spent = sym is_in.0 ∙ e in cc) is_in.0 is_in.1)
 
--- the steps on the hold word
+-- the table allows each step on the hold word
 module _ (count limit homes id : ℕ) (me : Seated) (i : ℕ) (is : me ≡ (seat.Caller (caller_of me.0), [])) (its : hold_index (caller_of me.0).key.slot ≡ i) where
   abbrev me_c : CallerView
   me_c = caller_of me.0

@@ -1,4 +1,4 @@
--- A step of a caller changes its view and one word of its slot, and the rule stays.
+-- A step of a caller changes the caller's view and one word of its slot, and keeps the rule.
 use Rattle.std.proofs.Common.{◌&&◌, ◌||◌, ◌≡◌, ◌≢◌, ℕ, zero, suc, ◌+◌, ◌-◌, ◌%◌, ◌^◌, ◌<◌, ◌≤◌, eqb, length, Bool, true, false, not, List, [], ◌∷◌, map, set, if◌then◌else◌, refl, sym, ap, ◌∙◌, subst, ⊎_elim, arith, length-set, get_or-set_same, get_or-set_other, eq-eqb, ne_eqb}
 use Rattle.std.specs.Prelude.{slice_get, Option, Some, None}
 use Rattle.std.proofs.lemmas.Option.{slice_get_within}
@@ -45,7 +45,7 @@ module _ {words : List ℕ} {m : MasterView} {cs : List CallerView} (j : ℕ) {c
   pub there : slice_get world.callers j ≡ Some (caller c)
   there = caller_at cs j c at
 
-  -- the slot of a caller that is not spent has the caller's node
+  -- the key of a caller that is not spent is the last key of its slot
   pub last : IsLast world c.key.slot c.key.generation
   last = shows.safe.held_last j c.key c.phase there holding
 
@@ -58,7 +58,7 @@ module _ {words : List ℕ} {m : MasterView} {cs : List CallerView} (j : ℕ) {c
   pub in_its_slot : (x : CallerView) → x.key ≡ c.key → (eqb x.key.slot slot) ≡ true
   in_its_slot x same = eq-eqb x.key.slot slot (ap (λ (y : Key). y.slot) same)
 
-  -- its hold is counted, so the slot is not free
+  -- the caller's hold is counted, so its slot is not free
   held : 1 ≤ holders slot cs
   held = let one = tally-one (is_holder slot) cs j c at (ap (λ (b : Bool). b && not (is_spent c.phase)) (in_its_slot c refl) ∙ ap not (not_spent c.phase holding)) in omega arith
 
@@ -94,11 +94,11 @@ module _ {words : List ℕ} {m : MasterView} {cs : List CallerView} (j : ℕ) {c
       no true h = absurd (h refl)
       no false h = refl
 
-  -- in another slot nobody comes or goes
+  -- a caller of another slot does not count here
   pub off : (k : ℕ) (x : CallerView) (b : Bool) → x.key.slot ≢ k → ((eqb x.key.slot k) && b) ≡ false
   off k x b ne = ap (λ (a : Bool). a && b) (ne_eqb x.key.slot k ne)
 
-  -- a free slot is another
+  -- a free slot is not the slot of this caller
   pub elsewhere : (k : ℕ) → IsFree (hold_word words k) → k ≡ slot → ⊥
   elsewhere k free its = not_free (subst (λ (x : ℕ). IsFree (hold_word words x)) its free)
 
@@ -117,7 +117,8 @@ module _ {words : List ℕ} {m : MasterView} {cs : List CallerView} (j : ℕ) {c
         let y : bit (p slot c') 1 ≡ bit b' 1 = ap (λ (y : Bool). bit y 1) now in
         omega arith
 
-    -- the seats of holds change by its phase
+    -- the number of seats that hold a slot changes only in the caller's slot, and only with the caller's
+    -- phase
     seats_in_other : (k : ℕ) → k ≢ slot → tally (is_holder k) (set cs j c') ≡ tally (is_holder k) cs
     seats_in_other k ne = in_other is_holder k ne (λ x. off k x (not (is_spent x.phase)))
 
@@ -130,7 +131,8 @@ module _ {words : List ℕ} {m : MasterView} {cs : List CallerView} (j : ℕ) {c
         (let r = seats_in_this true true (ap not (not_spent c.phase holding)) (ap not (not_spent c'.phase holds')) in omega arith))
         (λ ne. seats_in_other k ne)
 
-    -- what it counted stays, or is one hold more in the slot of a key
+    -- the holds that callers have counted stay the same, or there is one more in the slot of the key that
+    -- this caller counted
     pinners_stay : c'.pinning ≡ c.pinning → (k : ℕ) → tally (is_pinner k) (set cs j c') ≡ tally (is_pinner k) cs
     pinners_stay pins k =
         let r = tally-set (is_pinner k) cs j c c' at in
@@ -153,7 +155,7 @@ module _ {words : List ℕ} {m : MasterView} {cs : List CallerView} (j : ℕ) {c
     pub held_stay : c'.pinning ≡ c.pinning → c'.phase ≢ Spent → (k : ℕ) → holders k (set cs j c') ≡ holders k cs
     held_stay pins holds' k = let a = seats_stay holds' k in let b = pinners_stay pins k in omega arith
 
-    -- the key that it counted is the last of its slot still
+    -- the key of which the caller counted a hold is still the last of its slot
     pub pinned_stays : c'.pinning ≡ c.pinning → (key : Key) → c'.pinning ≡ Some key → IsLast world key.slot key.generation
     pinned_stays pins key p = shows.pinned j c key at (sym pins ∙ p)
 
@@ -162,7 +164,7 @@ module _ {words : List ℕ} {m : MasterView} {cs : List CallerView} (j : ℕ) {c
         ap (λ (key : Key). with_phase world j key c'.phase) (sym same)
         ∙ ap (λ (l : List Caller). let w : BareWorld = record { slots = m.slots; callers = l } in w) (sym (map-set caller cs j c'))
 
-    -- the caller's view changes with one word
+    -- the rule holds after the words and the caller's view have changed, if these conditions are met
     pub moves : (words' : List ℕ) → length words' ≡ length words
         → ((k : ℕ) (state : SlotState) → slice_get m.slots k ≡ Some state → ShowsMarks (active_word words' k) state.marks (users k (set cs j c')) (hiders k (set cs j c')))
         → ((k : ℕ) (state : SlotState) → slice_get m.slots k ≡ Some state → ShowsHolds m.limit (hold_word words' k) state (holders k (set cs j c') + pins_in m.pinning k))
@@ -234,7 +236,7 @@ module _ {words : List ℕ} {m : MasterView} {cs : List CallerView} (j : ℕ) {c
     pub hiders_now : (b b' : Bool) → is_hiding c.phase ≡ b → is_hiding c'.phase ≡ b' → hiders slot (set cs j c') + bit b 1 ≡ hiders slot cs + bit b' 1
     hiders_now b b' was now = in_this is_hider b b' (ap (λ (s : Bool). s && is_hiding c.phase) (in_its_slot c refl) ∙ was) (ap (λ (s : Bool). s && is_hiding c'.phase) (in_its_slot c' same) ∙ now)
 
-    -- who hides as before counts as before
+    -- the number of callers that hide stays if the step does not change whether this caller hides
     pub hiders_stay : is_hiding c'.phase ≡ is_hiding c.phase → hiders slot cs ≡ hiders slot (set cs j c')
     hiders_stay as_was = let r = hiders_now (is_hiding c.phase) (is_hiding c.phase) refl as_was in omega arith
 
@@ -257,7 +259,7 @@ module _ {words : List ℕ} {m : MasterView} {cs : List CallerView} (j : ℕ) {c
         let even : users slot (set cs j c') ≡ users slot cs = omega arith in
         on_active_word word (subst (λ (n : ℕ). ShowsMarks word last.0.marks n (hiders slot (set cs j c'))) (sym even) (own_word_now hides))
 
-    -- a step that changes the bit of a hidden key
+    -- a step that changes HIDE
     pub turns : (new : ℕ) → ((n : ℕ) → n ≡ users slot cs → ShowsMarks new last.0.marks n (hiders slot (set cs j c'))) → (has_reference c'.phase || c'.undo_due) ≡ (has_reference c.phase || c.undo_due) → c'.pinning ≡ c.pinning → c'.phase ≢ Spent → (c'.undo_due ≡ true → c'.phase ≡ Turned) → (c'.phase ≡ Running → are_live last.0.marks ≡ true)
         → (e : Event) → BareStep world e (with_phase world j c.key c'.phase) → Shows (set words (active_index slot) new) m (set cs j c')
     turns new is as_was = let u = users_now (has_reference c.phase || c.undo_due) (has_reference c.phase || c.undo_due) refl as_was in

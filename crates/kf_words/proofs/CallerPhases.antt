@@ -1,4 +1,4 @@
--- What a caller's phase says of its reference and of what it hides.
+-- What a caller's phase says about its reference, and whether it hides its key.
 use Rattle.std.proofs.Common.{◌≡◌, ◌≢◌, true, false, refl, subst}
 use Rattle.kf_core.specs.declared.caller.Phase.{Phase}
 use Rattle.kf_core.specs.declared.caller.Phase.TheVariants.{Still, Turned, Running, Broken, Restored, Drained, Parted, Hiding, Hidden, Spent}
@@ -7,7 +7,7 @@ use Rattle.kf_core.specs.Phases.{has_reference, is_waiting, is_hiding, may_relea
 pub not_running : (p : Phase) → is_waiting p ≡ true → p ≢ Running
 not_running p e r = let x : is_waiting Running ≡ true = subst (λ (q : Phase). is_waiting q ≡ true) r e in cc
 
--- who waits hides nothing, and neither does who has a reference or may release
+-- a caller that waits hides nothing, and neither does one that has a reference or may release its hold
 pub waits_shown : (p : Phase) → is_waiting p ≡ true → is_hiding p ≡ false
 waits_shown Still e = refl
 waits_shown Turned e = refl
@@ -44,7 +44,7 @@ idle_shown Hiding e = absurd (let x : false ≡ true = e in cc)
 idle_shown Hidden e = absurd (let x : false ≡ true = e in cc)
 idle_shown Spent e = absurd (let x : false ≡ true = e in cc)
 
--- who may release has no reference
+-- a caller that may release its hold has no reference
 pub idle_uncounted : (p : Phase) → may_release p ≡ true → has_reference p ≡ false
 idle_uncounted Still e = refl
 idle_uncounted Turned e = refl

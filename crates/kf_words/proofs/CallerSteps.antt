@@ -1,4 +1,5 @@
--- A try, its undo, the end of a call, a broken and a restored protection, and a look for the drain keep the rule.
+-- A try, its undo, the end of a call, the break and the restore of a protection, and a look for the drain
+-- keep the rule.
 use Rattle.std.proofs.Common.{◌&&◌, ◌||◌, ◌≡◌, ◌≢◌, ℕ, ◌+◌, ◌-◌, ◌%◌, ◌^◌, Bool, true, false, not, List, set, if◌then◌else◌, refl, sym, ap, ◌∙◌, subst, ⊎_elim}
 use Rattle.std.specs.Prelude.{slice_get, Some}
 use mathlib.Core.Option.{some}

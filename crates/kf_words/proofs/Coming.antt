@@ -1,4 +1,5 @@
--- A seat comes that holds nothing: the rule stays, and the world gets a spent caller.
+-- A new seat that holds nothing is made: the rule is kept, and the world gets one more caller, which is
+-- spent.
 use Rattle.std.proofs.Common.{◌&&◌, ◌≡◌, ◌⊎◌, inl, inr, ℕ, ◌+◌, Bool, true, false, true≢false, eqb, List, [], ◌∷◌, ◌++◌, length, map, set, refl, sym, ap, ◌∙◌, subst, ⊎_elim, arith}
 use Rattle.std.specs.Prelude.{slice_get, Some}
 use Rattle.std.proofs.lemmas.Option.{none-some}
@@ -29,7 +30,7 @@ set_end : {A : Type 0} (l : List A) (x y : A) → set (l ++ x ∷ []) (length l)
 set_end [] x y = refl
 set_end (z ∷ zs) x y = ap (λ l. z ∷ l) (set_end zs x y)
 
--- it is a Pin, and at once a Release
+-- the step is a Pin followed at once by a Release
 pub passes : (w : BareWorld) (key : Key) → MayPin w key → (w' : BareWorld) → w' ≡ with_spent w key → BareRun w (Pin (length w.callers) key ∷ Release (length w.callers) ∷ []) w'
 passes w key may w' is =
     let came : Caller = record { key = key; phase = Still } in
@@ -49,12 +50,12 @@ passes w key may w' is =
       ),
     )
 
--- a safe world stays safe
+-- a safe world stays safe when it gets a spent caller
 module _ (w : BareWorld) (key : Key) (s : Safe w) where
   abbrev gone : Caller
   gone = record { key = key; phase = Spent }
 
-  -- a caller of the new world is spent, or was there before
+  -- a caller of the new world is spent or was there before
   was : (c : ℕ) (k : Key) (p : Phase) → IsCaller (with_spent w key) c k p → (p ≡ Spent) ⊎ IsCaller w c k p
   was c k p h = ⊎_elim
       (λ (new : gone ≡ record { key = k; phase = p }). inl (sym (ap (λ (x : Caller). x.phase) new)))
@@ -105,7 +106,7 @@ module _ (m : MasterView) (cs : List CallerView) (key : Key) where
   abbrev new : CallerView
   new = spent_hold key
 
-  -- all callers after it
+  -- all callers after the step, the new one last
   abbrev pub with_it : List CallerView
   with_it = cs ++ new ∷ []
 

@@ -1,4 +1,4 @@
--- Each step of a seat is its event on the world that the views name.
+-- Each step of a seat is its event, or no event, in the world that the views describe.
 use Rattle.std.proofs.Common.{◌≡◌, ◌≢◌, ◌∷◌, ◌++◌, inl, inr, length, ℕ, zero, suc, ◌+◌, Bool, true, false, not, List, [], map, set, if◌then◌else◌, refl, sym, ap, ◌∙◌, subst, ⊎_elim, eq-eqb}
 use Rattle.std.specs.Prelude.{slice_get, Option, Some, None, is_some}
 use Rattle.std.proofs.lemmas.Option.{none-some, same_Some, get_or_from_slice_get}
@@ -47,12 +47,12 @@ caller_there [] j c e = absurd (none-some c e)
 caller_there (x ∷ xs) zero c e = ap (λ (y : CallerView). Some (caller y)) (same_Some x c e)
 caller_there (x ∷ xs) (suc j) c e = caller_there xs j c e
 
--- the caller of number j has this view
+-- caller j has this view
 module _ (m : MasterView) (cs : List CallerView) (j : ℕ) (c : CallerView) (at : slice_get cs j ≡ Some c) where
   there : slice_get (bare_world m cs).callers j ≡ Some (caller c)
   there = caller_there cs j c at
 
-  -- its new view, with the same key, makes of the world what its new phase does
+  -- the caller's new view, with the same key, changes the world exactly as its new phase does
   becomes : (c' : CallerView) → caller c' ≡ record { key = c.key; phase = c'.phase } → core.with_phase (bare_world m cs) j c.key c'.phase ≡ bare_world m (set cs j c')
   becomes c' is =
       ap (λ (x : Caller). let w : BareWorld = record { slots = m.slots; callers = set (map caller cs) j x } in w) (sym is)
@@ -197,12 +197,12 @@ miss_is_nothing slots limit t shown j c at found =
           ∙ stays m cs j c at c.undo_due found,
     )
 
--- the Master writes a slot's state
+-- writing an equal state to a slot gives the same world
 remade : (m : MasterView) (cs : List CallerView) (slot : ℕ) (state state' : SlotState) → state ≡ state'
     → (let w : BareWorld = record { slots = set m.slots slot state; callers = map caller cs } in w) ≡ record { slots = set m.slots slot state'; callers = map caller cs }
 remade m cs slot state state' is = ap (λ (x : SlotState). let w : BareWorld = record { slots = set m.slots slot x; callers = map caller cs } in w) is
 
--- the state of a linked key
+-- the state of the slot of a linked key
 state_is : (m : MasterView) (key : Key) (x : NodeFlags) → marks_of m key ≡ Some x → state_at m key.slot ≡ record { generation = key.generation; marks = Some x }
 state_is m key x there =
     let s = linked_state m key (ap is_some there) in

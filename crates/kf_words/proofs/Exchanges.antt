@@ -35,7 +35,7 @@ module _ (o : Opening) (homes id : ℕ) (me : Sighted) (is : plain me ≡ (seat.
   abbrev my : CallerView
   my = caller_of me.0.view
 
-  -- if a table that meets the rule allows a step of the caller, it is the next of the one run
+  -- if the caller may make a step from a table that meets the rule, it is the next step of the one run
   pub one_made : (t : SeenTable) (h : Kept o t) (at : get_elem? t.views id ≡ some me.0) (i n : ℕ) (kind : ℕ → StepKind) → IsQuiet kind → (c' : CallerView)
       → ((j : ℕ) → IsSeated (erased t) j my → WordStep (erased t) (kind j) (stepped (erased t) i n (suc j) [] (seat.Caller c') keeps))
       → (after : Sight) × (after.view ≡ seat.Caller c') × Kept o (stepped t i n id [] after keeps) × WasMade kind (caller_sight me.0) (caller_sight after)
@@ -70,7 +70,7 @@ module _ (o : Opening) (homes id : ℕ) (me : Sighted) (is : plain me ≡ (seat.
         },
       )
 
-  -- the most holds of the table are those of the opening that the caller has seen
+  -- the greatest number of holds of a slot is the one in the opening that the caller has seen
   pub opening_is : (t : SeenTable) (h : Kept o t) → get_elem? t.views id ≡ some me.0 → o.holds ≡ me.0.seen.opening.holds
   opening_is t h at = ap (λ (x : Opening). x.holds) (sym (h.seen id me.0 at).0)
 
@@ -140,7 +140,7 @@ module _ (o : Opening) (homes id : ℕ) (me : Sighted) (is : plain me ≡ (seat.
     exchange_made rests single old new more fits spare =
         subst (λ (k : ℕ). Allows (Kept o) homes id me k (λ n. either (eqb n old) new n) (MakesExchange (step homes k old new none) me)) its (exchange_here rests single old new more fits spare)
 
--- what an exchange says of its seat, if it found the word that it expected and if it did not
+-- the caller's view after an exchange that found the word that it expected, and after one that did not
 module _ (old found : ℕ) (me me' : Sighted) (is : plain me ≡ (seat.Caller (caller_of me.0.view), [])) (told : plain me' ≡ (seat.Caller (after_exchange old found (caller_of me.0.view)), (plain me).1)) where
   view_is : caller_of me'.0.view ≡ after_exchange old found (caller_of me.0.view)
   view_is = ap (λ (x : Seated). caller_of x.0) told

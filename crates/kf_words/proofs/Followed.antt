@@ -1,4 +1,5 @@
--- Each attended step of the table is made by events, from a world that is the table's up to the numbers of callers.
+-- Events do what each attended step of the table does, in a world that equals the table's up to a renumbering
+-- of the callers.
 use Rattle.std.proofs.Common.{◌≡◌, ◌≢◌, ◌⊎◌, ℕ, arith, true, List, [], ◌∷◌, ◌++◌, length, refl, sym, ap, ◌∙◌, subst, ⊎_elim}
 use Rattle.std.specs.Prelude.{slice_get, count_by, Some}
 use Rattle.kf_core.specs.declared.key.Key.{Key}
@@ -24,15 +25,15 @@ use Rattle.kf_words.proofs.UnderWay.{NoneComes, OneComes, OneSits, holds_under_w
 abbrev keys_of : Table → List Key
 keys_of t = keys_under_way (callers_in t.views)
 
--- the world of a table with these callers
+-- the world of a table, but with these callers
 abbrev pub model : Table → List Caller → BareWorld
 model t l = with_callers (world t) l
 
--- there are as many of each kind as hold a slot of the table
+-- these callers are as many of each kind as the table's callers and its holds under way together
 abbrev pub Matches : List Caller → Table → Type 0
 Matches l t = AreAsMany l (world t) (keys_of t)
 
--- events lead from these callers to such as match the next table
+-- events lead from these callers to callers that match the next table
 abbrev pub Follows : List Caller → Table → Table → Type 0
 Follows l t t' = (es : List Event) × (l' : List Caller) × BareRun (model t l) es (model t' l') × Matches l' t'
 
@@ -74,7 +75,7 @@ module _ (slots limit : ℕ) (t : Table) (kind : StepKind) (t' : Table) (h : Sho
         more)
         (attended_event slots limit t kind t' h s may other)
 
-  -- a hold is counted: that is its Pin
+  -- the step that counts a hold is its Pin
   by_pin : OneComes t t' → Follows l t t'
   by_pin o =
       let l' : List Caller = l ++ newcomer o.0 ∷ [] in (
@@ -90,7 +91,7 @@ module _ (slots limit : ℕ) (t : Table) (kind : StepKind) (t' : Table) (h : Sho
             omega arith,
       )
 
-  -- a hold gets its seat: it is in the world already
+  -- when a hold gets its seat, its caller is already in the world
   by_seat : OneSits t t' → Follows l t t'
   by_seat o = (
     [],
@@ -111,7 +112,7 @@ module _ (slots limit : ℕ) (t : Table) (kind : StepKind) (t' : Table) (h : Sho
       (λ (more : OneComes t t' ⊎ OneSits t t'). ⊎_elim by_pin by_seat more)
       (holds_under_way slots limit t kind t' h s)
 
--- callers that match are the table's up to their numbers
+-- callers that match a table are the table's callers, up to a renumbering
 renumbered : (t : Table) (l : List Caller) → Matches l t → IsRenumbered (model t l) (held_world t)
 renumbered t l m = (refl, λ p. m p ∙ sym (count_both p (world t).callers (newcomers t)))
 
@@ -122,7 +123,8 @@ run_followed slots limit (kind ∷ kinds) t u h r l m =
     let f = follows slots limit t kind v h r.2 l m r.1 in
     (renumbered t l m, v, r.2, f.0, model v f.1, f.2, run_followed slots limit kinds v u (word_step slots limit t kind v h r.2).0 r.3 f.1 f.3)
 
--- the same from any world that is the table's up to the numbers of callers
+-- an attended run is a run of events from any world that equals the table's up to a renumbering of the
+-- callers
 pub followed_from : (slots limit : ℕ) (kinds : List StepKind) (t u : Table) → Shown slots limit t → AttendedRun t kinds u → (w : BareWorld) → IsRenumbered w (held_world t) → IsRunOfEvents w t kinds u
 followed_from slots limit kinds t u h r w same =
     let is : model t w.callers ≡ w = ap (λ (l : List SlotState). let x : BareWorld = record { slots = l; callers = w.callers } in x) (sym same.0) in

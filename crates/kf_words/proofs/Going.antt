@@ -1,4 +1,5 @@
--- What each class of steps makes of the rule and of the world: a step of a caller, a step of the Master, a new seat.
+-- What each class of steps does to the rule and to the world: a step of a caller, a step of the Master, a new
+-- seat.
 use Rattle.std.proofs.Common.{◌≡◌, ◌⊎◌, inl, inr, ℕ, suc, ◌<◌, true, false, List, [], ◌∷◌, ◌++◌, map, length, set, refl, sym, ap, ◌∙◌, subst, arith}
 use Rattle.std.specs.Prelude.{slice_get, slice_index, Option, Some, is_some}
 use Rattle.std.proofs.lemmas.Option.{same_Some, get_or_from_slice_get}
@@ -42,7 +43,7 @@ pub use Rattle.kf_words.proofs.OneStep.{at_seat, in_world, world_is}
 use Rattle.kf_words.proofs.OneStep.{Goes, led, by_play}
 use Rattle.kf_words.proofs.Coming.{come_kept, spent_world}
 
--- a seat that holds nothing comes, of a key that may be pinned
+-- a new seat that holds nothing is made; its key may be pinned, unless the Master makes the seat
 pub come_goes : (slots limit : ℕ) (t t' : Table) (h : Shown slots limit t) (kind : StepKind) (key : Key) → Comes t key t' → MayPin (bare_world h.master h.callers) key ⊎ (kind ≡ answers) → Goes kind slots limit t t'
 come_goes slots limit t t' h kind key becomes may =
     let cs : List CallerView = h.callers ++ spent_hold key ∷ [] in
@@ -60,7 +61,7 @@ come_goes slots limit t t' h kind key becomes may =
           (inr (inr (inr (inr (record { key = key; may = may; is = spent_world h.master h.callers key }))))),
     )
 
--- a step of the caller of this number
+-- a step of caller j
 module _ (slots limit : ℕ) (t t' : Table) (h : Shown slots limit t) (j : ℕ) (c : CallerView) (there : IsSeated t j c) where
   abbrev me : Seated
   me = (seat.Caller c, [])
@@ -82,7 +83,7 @@ module _ (slots limit : ℕ) (t t' : Table) (h : Shown slots limit t) (j : ℕ) 
         led kind t t' (bare_world h.master h.callers) (bare_world h.master (set h.callers j c')) (world_is t h.master h.callers h.views) (world_is t' h.master (set h.callers j c') views) l,
       )
 
-  -- a step on the count of its slot's sleepers
+  -- a step on the count of sleepers at the caller's slot
   pub sleeper_goes : (kind : StepKind) (f : ℕ → ℕ) → slice_index t.words (sleepers_index c.key.slot) < 18446744073709551616
       → t' ≡ stepped t (sleepers_index c.key.slot) (f (slice_index t.words (sleepers_index c.key.slot))) (suc j) [] (seat.Caller c) keeps
       → Goes kind slots limit t t'
@@ -94,7 +95,7 @@ module _ (slots limit : ℕ) (t t' : Table) (h : Shown slots limit t) (j : ℕ) 
       (sleep_allowed slots limit (length t.homes) (suc j) me (sleepers_index c.key.slot) f refl refl)
       (λ me' e. ap (λ (x : Seated). x.0) e) fits becomes (inl (ap (bare_world h.master) same))
 
-  -- if the rule is met by what the step makes of the word and of the caller's view
+  -- the table after the step meets the rule if the new word and the caller's new view do
   caller_shown : (word n : ℕ) (c' : CallerView) → Shows (set t.words word n) h.master (set h.callers j c') → t' ≡ stepped t word n (suc j) [] (seat.Caller c') keeps → Shown slots limit t'
   caller_shown word n c' shown_so becomes = record {
     master = h.master;
@@ -111,7 +112,7 @@ module _ (slots limit : ℕ) (t t' : Table) (h : Shown slots limit t) (j : ℕ) 
       let here : p.0 ≡ j = (let e = p.1 in omega arith) in
       subst (λ (k : ℕ). get_elem? h.callers k ≡ some c) here p.2
 
-  -- one hold more is counted
+  -- one more hold is counted
   pub count_goes : MayCount t c → slice_index t.words (hold_index c.key.slot) < 18446744073709551616
       → t' ≡ stepped t (hold_index c.key.slot) (plus 1 (slice_index t.words (hold_index c.key.slot))) (suc j) [] (seat.Caller (after_count (slice_index t.words (hold_index c.key.slot)) c)) keeps
       → Goes (counts_hold j) slots limit t t'
@@ -150,7 +151,7 @@ module _ (slots limit : ℕ) (t t' : Table) (h : Shown slots limit t) (j : ℕ) 
             (happens _ _ _ (Pin (length h.callers) c.key) (share_is_pin slots limit t h j c at holding) (λ k e. absurd (let x : Pin (length h.callers) c.key ≡ Enter k = e in cc))),
       )
 
-  -- a step on any word
+  -- a step on any word, which leaves the world as it was
   word_goes : (kind : StepKind) (i n : ℕ) (c' : CallerView) → Shows (set t.words i n) h.master (set h.callers j c') → bare_world h.master (set h.callers j c') ≡ bare_world h.master h.callers
       → t' ≡ stepped t i n (suc j) [] (seat.Caller c') keeps → Goes kind slots limit t t'
   word_goes kind i n c' shown_so stays becomes =
@@ -179,7 +180,7 @@ module _ (slots limit : ℕ) (t t' : Table) (h : Shown slots limit t) (j : ℕ) 
       (count_at_owes t.words h.master h.callers j c h.shows seated (waiting_is c.phase may.0.0).0 may.0.0 may.0.1 may.1 slot place fits)
       ((miss_is_nothing slots limit t h j c at n).6 slot) becomes
 
-  -- the hold of any key that was counted gets its seat
+  -- the hold that the caller counted, of any key, gets its seat
   pub hand_views : (key : Key) → t' ≡ record { words = t.words; homes = t.homes; views = set t.views (suc j) (seat.Caller (after_share c)) ++ seat.Caller (new_hold key) ∷ [] }
       → t'.views ≡ seats h.master (set h.callers j (after_share c) ++ new_hold key ∷ [])
   hand_views key becomes =
@@ -205,7 +206,7 @@ module _ (slots limit : ℕ) (t t' : Table) (h : Shown slots limit t) (j : ℕ) 
             (inr (inr (inr (inl (record { kind_is = inr (j, refl); key = key; is = shared_world h.master h.callers j c seated key }))))),
       )
 
--- what a step of the Master says, by its slot
+-- the Master's view after a step, in terms of the step's slot
 pub slot_view : (after : ℕ → ℕ → MasterView → MasterView) (m : MasterView) (n i slot : ℕ) (me' : Seated) → slot_of i ≡ slot → me' ≡ (seat.Master (after (slot_of i) n m), []) → me'.0 ≡ seat.Master (after slot n m)
 slot_view after m n i slot me' back e = ap (λ (x : Seated). x.0) e ∙ ap (λ (k : ℕ). seat.Master (after k n m)) back
 
@@ -217,7 +218,7 @@ module _ (slots limit : ℕ) (t t' : Table) (h0 : Shown slots limit t) (m : Mast
   pub is_m : h0.master ≡ m
   is_m = (master_seat h0.master m cs 0 (subst (λ (l : List View). get_elem? l 0 ≡ some (seat.Master m)) h0.views there)).1
 
-  -- the rule, with the view that the Master's seat has
+  -- the table meets the rule with this view of the Master
   abbrev pub met : Shown slots limit t
   met = record {
     master = m;
@@ -241,7 +242,7 @@ module _ (slots limit : ℕ) (t t' : Table) (h0 : Shown slots limit t) (m : Mast
         led kind t t' (bare_world m cs) (bare_world m' cs) (world_is t m cs met.views) (world_is t' m' cs views) l,
       )
 
-  -- a word that the rule does not read is put
+  -- the Master stores a word that the rule does not read
   pub note_goes : (kind : StepKind) (i n : ℕ) → Shows (set t.words i n) m cs → t' ≡ stepped t i n 0 [] (seat.Master m) keeps → Goes kind slots limit t t'
   note_goes kind i n shown_so becomes =
       let views : t'.views ≡ seats m cs = ap (λ (x : Table). x.views) becomes ∙ ap (λ (l : List View). set l 0 (seat.Master m)) met.views in (
@@ -256,7 +257,7 @@ module _ (slots limit : ℕ) (t t' : Table) (h0 : Shown slots limit t) (m : Mast
         led kind t t' (bare_world m cs) (bare_world m cs) (world_is t m cs met.views) (world_is t' m cs views) (inl refl),
       )
 
-  -- marks of a slot's last key
+  -- the marks of a slot's last key
   pub last_marks : (slot : ℕ) (state : SlotState) (o : Option NodeFlags) → slice_get m.slots slot ≡ Some state → state.marks ≡ o → marks_of m (last_key slot state) ≡ o
   last_marks slot state o its is = ap (λ (x : Option SlotState). marks_in x state.generation) its ∙ shown state.generation state.marks ∙ is
 
@@ -280,7 +281,7 @@ module _ (slots limit : ℕ) (t t' : Table) (h0 : Shown slots limit t) (m : Mast
             (inr (inr (inr (inl (record { kind_is = inl (slot, refl); key = key; is = came }))))),
       )
 
-  -- if it was attended, it is a Pin
+  -- the split is a Pin if the key may be pinned
   pub split_pins : (slot : ℕ) (state : SlotState) → slice_get m.slots slot ≡ Some state → m.pinning ≡ Some slot → MayPin (bare_world m cs) (last_key slot state)
       → t' ≡ record { words = t.words; homes = t.homes; views = set t.views 0 (seat.Master (after_split m)) ++ seat.Caller (hold_for m m.pinning) ∷ [] }
       → BareStep (world t) (Pin (length cs) (last_key slot state)) (world t')
@@ -291,7 +292,7 @@ module _ (slots limit : ℕ) (t t' : Table) (h0 : Shown slots limit t) (m : Mast
       subst (λ (w : BareWorld). BareStep w (Pin (length cs) (last_key slot state)) (world t')) (sym is)
       (subst (λ (w : BareWorld). BareStep (bare_world m cs) (Pin (length cs) (last_key slot state)) w) (sym is') (split_is_pin slots limit t met slot state pins its may))
 
-  -- a linked node, or a holder of its slot, lets it be pinned
+  -- a slot's last key may be pinned if its node is linked or a caller holds the slot
   pub linked_pins : (slot : ℕ) (state : SlotState) → slice_get m.slots slot ≡ Some state → is_some (state_at m slot).marks ≡ true → MayPin (bare_world m cs) (last_key slot state)
   linked_pins slot state its linked_is =
       inl (ap is_some (last_marks slot state state.marks its refl) ∙ ap (λ (x : SlotState). is_some x.marks) (sym (get_or_from_slice_get m.slots slot state no_state its)) ∙ linked_is)

@@ -1,4 +1,4 @@
--- The bit of a hidden key says whether a caller hides the last key of the slot.
+-- The bit HIDE says whether a caller hides the last key of the slot.
 use Rattle.std.proofs.Common.{◌&&◌, ◌≡◌, ℕ, ◌≤◌, eqb, Bool, true, false, List, refl, sym, ap, ◌∙◌, arith, eq-eqb}
 use Rattle.std.specs.Prelude.{slice_get, Some}
 use Rattle.std.proofs.lemmas.Option.{same_Some}
@@ -28,7 +28,7 @@ module _ (words : List ℕ) (m : MasterView) (cs : List CallerView) (shows : Sho
   abbrev word : ℕ
   word = active_word words slot
 
-  -- a caller who hides a key of the slot counts
+  -- a caller that hides the last key of the slot is counted
   hider_counts : (i : ℕ) (p : Phase) → slice_get (bare_world m cs).callers i ≡ Some (record { key = last_key slot state; phase = p }) → is_hiding p ≡ true → 1 ≤ hiders slot cs
   hider_counts i p there hides =
       let x = at_caller cs i (record { key = last_key slot state; phase = p }) there in
@@ -37,7 +37,7 @@ module _ (words : List ℕ) (m : MasterView) (cs : List CallerView) (shows : Sho
       let its_phase : y.phase ≡ p = ap (λ (h : Caller). h.phase) x.2 in
       tally-one (is_hider slot) cs i y x.1 (ap (λ (b : Bool). b && is_hiding y.phase) (eq-eqb y.key.slot slot its_slot) ∙ ap is_hiding its_phase ∙ hides)
 
-  -- who counts hides the last key
+  -- if a caller is counted, the last key is hidden
   counted_hides : 1 ≤ hiders slot cs → is_hidden (bare_world m cs) (last_key slot state) ≡ true
   counted_hides some =
       let r = tally-some (is_hider slot) cs some in

@@ -1,4 +1,4 @@
--- The steps of a caller that hides keep the rule.
+-- The steps of hiding keep the rule: to hide a key, to look for users while it is hidden, and to show it.
 use Rattle.std.proofs.Common.{◌&&◌, ◌||◌, ◌≡◌, ◌≢◌, ℕ, ◌+◌, ◌-◌, ◌%◌, ◌^◌, ◌<◌, bit_or, Bool, true, false, List, set, refl, sym, ap, ◌∙◌, subst, ⊎_elim, arith}
 use Rattle.std.specs.Prelude.{slice_get, Some}
 use mathlib.Core.Option.{some}
@@ -34,7 +34,7 @@ module _ (words : List ℕ) (m : MasterView) (cs : List CallerView) (j : ℕ) (c
   abbrev last : IsLast world c.key.slot c.key.generation
   last = last_state j shows at holding
 
-  -- the caller's view is that of its key with another phase
+  -- in the world the caller has its key and this phase
   in_phase : (p : Phase) → c.phase ≡ p → slice_get world.callers j ≡ Some (record { key = c.key; phase = p })
   in_phase p is = subst (λ (q : Phase). slice_get world.callers j ≡ Some (record { key = c.key; phase = q })) is (there j shows at holding)
 
@@ -70,7 +70,7 @@ module _ (words : List ℕ) (m : MasterView) (cs : List CallerView) (j : ℕ) (c
       (sees j shows at holding (after_step c.phase c.undo_due word c) refl refl refl refl holding (λ e. absurd (let x : true ≡ false = sym e ∙ settled in cc)) (λ e. absurd (let x : Hiding ≡ Running = sym hiding ∙ e in cc)) (Undo j) (unmoved j shows at holding)))
       (bool_cases (is_unused word))
 
-  -- a hidden caller finds its bit set
+  -- a Hidden caller finds HIDE set
   pub show_finds : c.phase ≡ Hidden → has_hide word ≡ true
   show_finds hid = hide_set word last.0.marks (users slot cs) (hiders slot cs) (users_few j shows at holding) (own_word j shows at holding)
       (tally-one (is_hider slot) cs j c at (ap (λ (b : Bool). b && is_hiding c.phase) (in_its_slot j shows at holding c refl) ∙ ap is_hiding hid))

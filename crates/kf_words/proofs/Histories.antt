@@ -1,4 +1,4 @@
--- What the rule says of the one run: each table that meets it is at the end of a run from the opening.
+-- What the rule says about the one run: each table that meets it is the end of a run from the opening.
 use Rattle.std.proofs.Common.{◌≡◌, ◌⊎◌, inl, inr, ℕ, zero, suc, ◌≤◌, List, [], ◌∷◌, ◌++◌, refl, sym, ap, ◌∙◌, subst, ⊎_elim, arith}
 use mathlib.Core.Option.{some, some-injective, some-ne-none}
 use mathlib.Core.List.{IsPrefix}
@@ -92,7 +92,7 @@ drained_ever_after o t kept first mid p r c key phase there past =
     drained_for_good o.slots o.holds x.0 (erased t) p.0 (rule_kept o.slots o.holds (opened_as o) x.0 first kept.begins x.1) x.2 c key phase
     (subst (λ (y : Table). IsCaller (world y) c key phase) one there) past
 
--- the rule is met at the end of a life, in which each seat has seen the whole of it
+-- the table at the end of the example run meets the rule, if each of its seats has seen the whole run
 pub life_is_kept : LifeIsKept
 life_is_kept =
     let o : Opening = life_opening in

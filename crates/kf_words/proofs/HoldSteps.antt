@@ -1,4 +1,5 @@
--- A caller's steps on a hold word keep the rule: a release, the look whether the node has left, and one hold more.
+-- A caller's steps on a hold word keep the rule: a release, the look whether the node has left, and the count
+-- of one more hold.
 use Rattle.std.proofs.Common.{◌||◌, ◌≡◌, ◌≢◌, ℕ, ◌+◌, ◌-◌, ◌%◌, ◌^◌, ◌<◌, eqb, Bool, true, false, not, List, set, get_or, refl, sym, ap, ◌∙◌, subst, ⊎_elim, arith, length-set, get_or-set_same, get_or-set_other, eq-eqb, ne_eqb}
 use Rattle.std.specs.Prelude.{slice_get, Some, None, is_some}
 use Rattle.std.proofs.lemmas.List.{set-get_or}
@@ -42,7 +43,7 @@ module _ (words : List ℕ) (m : MasterView) (cs : List CallerView) (j : ℕ) (c
   abbrev last : IsLast world c.key.slot c.key.generation
   last = last_state j shows at holding
 
-  -- a step on the slot's hold word, of a caller that uses nothing
+  -- a step on the slot's hold word, by a caller that is not counted as a user
   module _ (c' : CallerView) (same : c'.key ≡ c.key) (idle : (has_reference c.phase || c.undo_due) ≡ false) (idle' : (has_reference c'.phase || c'.undo_due) ≡ false) (settled' : c'.undo_due ≡ false) (runs' : c'.phase ≢ Running) (hides' : is_hiding c'.phase ≡ is_hiding c.phase) where
     uses_stay : (k : ℕ) → users k (set cs j c') ≡ users k cs
     uses_stay k = dite (ℕ_discrete k slot)
@@ -54,7 +55,7 @@ module _ (words : List ℕ) (m : MasterView) (cs : List CallerView) (j : ℕ) (c
         (λ e. subst (λ (x : ℕ). hiders x (set cs j c') ≡ hiders x cs) (sym e) (sym (hiders_stay j shows at holding c' same hides')))
         (λ ne. in_other j shows at holding c' same is_hider k ne (λ x. off j shows at holding k x (is_hiding x.phase)))
 
-    -- a step that leaves the words, and counts nobody
+    -- a step that changes no word and no count
     unchanged : c'.phase ≢ Spent → c'.pinning ≡ c.pinning → (e : Event) → BareStep world e (with_phase world j c.key c'.phase) → Shows words m (set cs j c')
     unchanged now pins = moves j shows at holding c' same words refl
         (λ k state its. subst (λ (n : ℕ). ShowsMarks (active_word words k) state.marks n (hiders k (set cs j c'))) (sym (uses_stay k))
@@ -65,7 +66,7 @@ module _ (words : List ℕ) (m : MasterView) (cs : List CallerView) (j : ℕ) (c
         (λ k found s. s) (λ k short free. (refl, refl))
         (λ e. absurd (runs' e))
 
-    -- a step on the hold word of any slot, which is not free
+    -- a step on the hold word of any slot that is not free
     on_hold_word : (s : ℕ) (last : SlotState) → slice_get m.slots s ≡ Some last → (IsFree (hold_word words s) → ⊥) → ((key : Key) → c'.pinning ≡ Some key → IsLast world key.slot key.generation)
         → ((k : ℕ) → k ≢ s → holders k (set cs j c') ≡ holders k cs)
         → (new : ℕ) → ShowsHolds m.limit new last (holders s (set cs j c') + pins_in m.pinning s) → ((found : ℕ) → StillHolds m.limit found (hold_word words s) → StillHolds m.limit found new)
@@ -121,7 +122,7 @@ module _ (words : List ℕ) (m : MasterView) (cs : List CallerView) (j : ℕ) (c
       (λ found s. ((λ f. absurd (not_free j shows at holding (s.0 f))), (λ room. let q = s.1 room in let most : holds_in hold < m.limit = q in omega arith)))
       (Release j) (c.key, c.phase, there j shows at holding, idles, refl)
 
-  -- a step that leaves the word, and counts nobody
+  -- a step that leaves its word as it was, and changes no count
   stays : (c' : CallerView) (same : c'.key ≡ c.key) → (has_reference c.phase || c.undo_due) ≡ false → (has_reference c'.phase || c'.undo_due) ≡ false → c'.undo_due ≡ false → c'.phase ≢ Running → is_hiding c'.phase ≡ is_hiding c.phase → c'.phase ≢ Spent → c'.pinning ≡ c.pinning
       → (e : Event) → BareStep world e (with_phase world j c.key c'.phase) → (i : ℕ) → Shows (set words i (get_or words i 0)) m (set cs j c')
   stays c' same idle idle' settled' runs' hides' now pins e event i =
@@ -139,14 +140,14 @@ module _ (words : List ℕ) (m : MasterView) (cs : List CallerView) (j : ℕ) (c
       (record { key = c.key; there = subst (λ (p : Phase). slice_get world.callers j ≡ Some (record { key = c.key; phase = p })) drains (there j shows at holding); gone = ap is_some (known j shows at holding) ∙ sym linked_is ∙ no }, refl) (hold_index slot)))
       (bool_cases (has_linked hold))
 
-  -- a look at any word
+  -- a load of any word
   pub miss_owes : is_waiting c.phase ≡ true → c.undo_due ≡ false → (i : ℕ) → Shows (set words i (get_or words i 0)) m (set cs j (after_miss (get_or words i 0) c))
   miss_owes waits settled i =
       let n : ℕ = get_or words i 0 in
       let idle : (has_reference c.phase || c.undo_due) ≡ false = ap (λ (b : Bool). b || c.undo_due) (waiting_is c.phase waits).1 ∙ settled in
       stays (after_miss n c) refl idle idle settled (not_running c.phase waits) refl holding refl (Undo j) (unmoved j shows at holding) i
 
-  -- one hold more of any slot that is held or has a node is counted, and the slot has room still for one of the
+  -- one more hold of any slot that is not free is counted, if the slot then still has room for one of the
   -- Master's
   pub more_owes : is_waiting c.phase ≡ true → c.undo_due ≡ false → c.pinning ≡ None → (c' : CallerView) → c'.key ≡ c.key → c'.phase ≡ c.phase → c'.undo_due ≡ c.undo_due
       → (key : Key) → c'.pinning ≡ Some key → (its : IsLast world key.slot key.generation) → (IsFree (hold_word words key.slot) → ⊥) → HasSpare m.limit (hold_word words key.slot) → hold_word words key.slot < 18446744073709551616
@@ -180,7 +181,7 @@ module _ (words : List ℕ) (m : MasterView) (cs : List CallerView) (j : ℕ) (c
       (λ found st. ((λ f. absurd (taken (st.0 f))), (λ room. omega arith)))
       (Undo j) (ap (λ (p : Phase). with_phase world j c.key p) phase ∙ unmoved j shows at holding)
 
-  -- one hold more of the caller's slot
+  -- one more hold is counted in the caller's slot
   pub count_owes : is_waiting c.phase ≡ true → c.undo_due ≡ false → c.pinning ≡ None → HasSpare m.limit hold → hold < 18446744073709551616
       → Shows (set words (hold_index slot) ((hold + 1) % 2 ^ 64)) m (set cs j (after_count hold c))
   count_owes waits settled single spare small =

@@ -1,4 +1,4 @@
--- What the Master knows of a slot and of its keys, and a search load by load.
+-- What the Master knows about a slot and its keys, and how a search goes on load by load.
 use Rattle.std.proofs.Common.{◌≡◌, ℕ, zero, suc, ◌+◌, get_or, slice_set, ◌<◌, ◌≤◌, ◌/◌, true, false, List, [], ◌∷◌, ◌++◌, length, refl, sym, ap, ◌∙◌, arith, subst}
 use Rattle.std.specs.Prelude.{slice_get, Option, Some, None, is_some}
 use Rattle.std.specs.Option.{option_map}
@@ -27,7 +27,7 @@ still_there [] ys i x h = absurd (none-some x h)
 still_there (y ∷ xs) ys zero x h = h
 still_there (y ∷ xs) ys (suc i) x h = still_there xs ys i x h
 
--- one load more leaves what was found before
+-- after one more load, the slots that were found to have room still are
 pub rooms_kept : (m m' : MasterView) (slot found : ℕ) → m' ≡ with_load slot found m → KeepsRooms m m'
 rooms_kept m m' slot found is s f =
     subst (λ (w : MasterView). FoundRoom w s) (sym is) (f.0, f.1, still_there m.loads (record { slot = slot; word = found } ∷ []) f.0 f.1 f.2, f.3, f.4)
@@ -90,19 +90,19 @@ next_there m slot found near tells free =
     let left = free.1 in
     (p.0.generation, p.1 ∙ ap (λ (o : Option NodeFlags). let s : SlotState = record { generation = p.0.generation; marks = o } in Some s) gone, omega arith)
 
--- the slots when the last node of one has left
+-- the slots after the last node of a slot has left the tree
 pub slots_unlinked : (m m' : MasterView) (key : Key) → IsLastKey m key → m'.slots ≡ m.slots → (without_node key.slot m').slots ≡ slots_with m.slots key None
 slots_unlinked m m' key last same =
     ap (λ (l : List SlotState). slice_set l key.slot (record { generation = (state_at m' key.slot).generation; marks = None })) same
     ∙ ap (λ (g : ℕ). slice_set m.slots key.slot (record { generation = g; marks = None })) (ap (λ (k : Key). k.generation) (last_is m m' key last same))
 
--- the slots when a node of these marks gets others
+-- the slots after a node with these marks gets other marks
 pub slots_remarked : (m : MasterView) (key : Key) (change : NodeFlags → NodeFlags) (x : NodeFlags) → marks_of m key ≡ Some x → slice_set m.slots key.slot (remarked change (state_at m key.slot)) ≡ slots_with m.slots key (Some (change x))
 slots_remarked m key change x had =
     let its : slice_get m.slots key.slot ≡ Some (record { generation = key.generation; marks = Some x }) = in_place (slice_get m.slots key.slot) key.generation x had in
     ap (λ (s : SlotState). slice_set m.slots key.slot (remarked change s)) (get_or_from_slice_get m.slots key.slot (record { generation = key.generation; marks = Some x }) no_state its)
 
--- the slots when a node is born
+-- the slots after a node is born
 pub slots_born : (m : MasterView) (key : Key) → IsVacant m key → (with_birth key.slot (after_store key.slot m)).slots ≡ slots_with m.slots key (Some fresh_marks)
 slots_born m key vacant =
     let was : SlotState = record { generation = vacant.last; marks = None } in

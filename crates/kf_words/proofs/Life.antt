@@ -1,4 +1,5 @@
--- A run with every kind of step on words: each step is as its table says.
+-- An example of a run with every kind of step on the words: each step may be made from the table that it
+-- finds.
 use Rattle.std.proofs.Common.{◌≡◌, ◌≢◌, inl, inr, true, false, List, [], ◌∷◌, refl, ltb-true, ℕ, ◌++◌}
 use Rattle.std.specs.Prelude.{Some, None, Option}
 use Rattle.kf_core.specs.declared.command.Command.TheVariants.{Doom}
@@ -86,7 +87,7 @@ t22 = table_at 12884901889 6442450946 (master_at 1 (Some (with_marks_of true tru
 abbrev t23 : Table
 t23 = table_at 12884901888 6442450946 (master_at 1 (Some (with_marks_of true true)) (None) (None) ([]) (record { slot = 1; word = 0 } ∷ []) (None)) ((caller_at Broken 6 3 12884901889 false) ∷ (caller_at Turned 6 1 12884901889 false) ∷ [])
 
--- the two tables while caller 1 sleeps: before the last user gives its reference up, and after it
+-- the two tables while caller 1 sleeps: before the last user gives up its reference, and after that
 abbrev a22 : Table
 a22 = table_with 12884901889 6442450946 1 (master_at 1 (Some (with_marks_of true true)) (None) (None) ([]) (record { slot = 1; word = 0 } ∷ []) (None)) ((caller_at Running 5 3 0 false) ∷ (caller_at Turned 6 1 12884901889 false) ∷ [])
 
@@ -117,7 +118,7 @@ t30 = table_at 12884901888 4294967298 (master_at 1 (None) (None) (None) ([]) (re
 abbrev t31 : Table
 t31 = table_at 12884901888 4294967298 (master_at 1 (None) (None) (None) ([]) (record { slot = 1; word = 0 } ∷ []) (None)) ((caller_at Still 8 3 12884901889 false) ∷ (caller_at Parted 9 1 4294967298 false) ∷ [])
 
--- the node is out: caller 0 finds no room for another hold, and then makes one
+-- the node has left the tree: caller 0 finds no room for another hold, and then counts one
 abbrev b31 : Table
 b31 = table_at 12884901888 4294967298 (master_at 1 (None) (None) (None) ([]) (record { slot = 1; word = 0 } ∷ []) (None)) ((caller_at Still 9 3 4294967298 false) ∷ (caller_at Parted 9 1 4294967298 false) ∷ [])
 
@@ -295,7 +296,7 @@ s37 = (master_at 2 (Some (with_marks_of false false)) (None) (None) (record { sl
 s38 : WordStep t38 (unpins_hold 1) t39
 s38 = (master_at 2 (Some (with_marks_of false false)) (Some 1) (None) ([]) (record { slot = 1; word = 4294967296 } ∷ []) (None), (ltb-true 1 2 refl, refl), record { there = refl; fits = ltb-true 10737418241 18446744073709551616 refl; becomes = refl })
 
--- of the next node the Master gives a hold to caller 3, which makes one more by the node's key
+-- the Master gives caller 3 a hold of the next node, and caller 3 makes one more by the node's key
 abbrev past : List CallerView
 past = (caller_at Spent 11 3 4294967297 false) ∷ (caller_at Spent 10 1 4294967298 false) ∷ (caller_at Spent 1 0 4294967298 false) ∷ []
 
@@ -344,7 +345,7 @@ t46 = table_at 4294967296 10737418242 (next_master (None) []) (past ++ next_call
 s45 : WordStep t45 (reads_node 1 0 3) t46
 s45 = (next_caller Still 2 0 10737418241 false, (refl, refl), record { there = refl; fits = ltb-true 0 18446744073709551616 refl; becomes = refl })
 
--- it meets the Master
+-- caller 3 meets the Master
 abbrev met_by : List CallerView → List CallerView
 met_by more = past ++ next_caller Still 3 0 0 false ∷ next_caller Still 0 0 0 false ∷ spent_hold (record { slot = 1; generation = 2 }) ∷ more
 
@@ -363,7 +364,7 @@ s47 = ((next_master (None) [], refl), refl)
 s48 : WordStep t47 answers t48
 s48 = (next_master (None) [], refl, ltb-true 0 2 refl, refl)
 
--- the first word of the next node is put, which is a directory
+-- the Master stores the first word of the next node, which is a directory
 s_node : WordStep t35 (stores_node 1 0 0) t35
 s_node = (master_at 1 (None) (None) (Some 1) (record { slot = 1; word = 4294967296 } ∷ []) (record { slot = 1; word = 0 } ∷ []) (None), ((ltb-true 1 2 refl, refl), ltb-true 0 5 refl), record { there = refl; fits = ltb-true 0 18446744073709551616 refl; becomes = refl })
 

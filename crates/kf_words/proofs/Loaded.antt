@@ -1,4 +1,4 @@
--- What a load of the Master leaves in its view is the word that it found.
+-- A load of the Master leaves the word that it found in the Master's view.
 use Rattle.std.proofs.Common.{◌≡◌, ℕ, ◌<◌, List, [], ◌∷◌, length, sym, ap, ◌∙◌}
 use Rattle.std.specs.Prelude.{slice_index, Option, Some, None}
 use Rattle.std.proofs.lemmas.List.{append_cancel_left}
@@ -14,7 +14,7 @@ use Rattle.kf_words.specs.TableSteps.{Table, StepKind, loads_hold, looks_over, s
 use Rattle.kf_words.specs.Made.{WasMadeByMaster}
 use Rattle.kf_words.proofs.Noted.{put}
 
--- the view after a load is that of before, changed by the word that was found
+-- the view after a load is the one before, changed by the word that was found
 loaded_view : (kind : StepKind) (before after : MasterSight) (x : WasMadeByMaster kind before after) (change : ℕ → ℕ → MasterView → MasterView) (May : MasterView → Type 0) (index : ℕ → ℕ) (slot : ℕ)
     → MasterPlays change May index same x.found slot x.left → after.view ≡ change slot (slice_index x.found.words (index slot)) before.view
 loaded_view kind before after x change May index slot s =

@@ -1,4 +1,5 @@
--- Each step of a caller is the next of the one run, and says so beside its new view.
+-- Each step of a caller is the next step of the one run. The step says so, and it also says what the caller's
+-- view is after it.
 use Rattle.std.proofs.Common.{◌≡◌, ℕ, suc, ◌<◌, Bool, true, false, List, [], ◌∷◌, ◌++◌, length, if◌then◌else◌, refl, sym, ap, ◌∙◌, subst, append_assoc}
 use Rattle.std.specs.Prelude.{slice_index}
 use mathlib.Core.Option.{some, some-injective}
@@ -33,7 +34,8 @@ use Rattle.kf_words.proofs.CallerAllowed.{no_step, show_allowed}
 abbrev pub IsQuiet : (ℕ → StepKind) → Type 0
 IsQuiet kind = (j : ℕ) → note_of (kind j) ≡ []
 
--- what a step on the word i says, if that is the word of this index of the caller's slot
+-- what is said of a step on word i: it is the caller's word of this index, `told` is true of the new view,
+-- and the step was made
 abbrev pub MadeAt : (ℕ → ℕ) → ℕ → Sighted → (ℕ → StepKind) → (ℕ → Seated → Type 0) → ℕ → Sighted → Type 0
 MadeAt index i me kind told n me' = (i ≡ index (caller_of me.0.view).key.slot) × (told n (plain me') × WasMade kind (caller_sight me.0) (caller_sight me'.0))
 
@@ -45,7 +47,8 @@ module _ (o : Opening) (homes id : ℕ) (me : Sighted) (i : ℕ) (is : plain me 
   abbrev MadeFinding : (ℕ → StepKind) → ℕ → CallerSight → Type 0
   MadeFinding kind n s' = (m : WasMade kind (caller_sight me.0) s') × (slice_index m.found.words i ≡ n)
 
-  -- what the step says of the view after it, by the word that it found
+  -- in each table that meets the rule, `told` is true of the word that the step finds and the caller's view
+  -- after it
   abbrev Tells : (ℕ → CallerView → CallerView) → (ℕ → Seated → Type 0) → Type 0
   Tells aft told = (t : Table) → Shown o.slots o.holds t → length t.homes ≡ homes → get_elem? t.views id ≡ some me.0.view → slice_index t.words i < 18446744073709551616
       → told (slice_index t.words i) (seat.Caller (aft (slice_index t.words i) me_c), me.1)
@@ -100,12 +103,12 @@ module _ (o : Opening) (homes id : ℕ) (me : Sighted) (i : ℕ) (is : plain me 
       let r = finding kind quiet f aft told tells makes t h far at small in
       (r.0, r.1, r.2, r.3, (r.4.0, r.4.1.0))
 
--- a step may say besides what holds of its word
+-- any true statement may be added to what is said of a step
 on_kept : (o : Opening) (homes id : ℕ) (me : Sighted) (i : ℕ) (f : ℕ → ℕ) (told : ℕ → Sighted → Type 0) (Is : Type 0) → Is
     → Allows (Kept o) homes id me i f told → Allows (Kept o) homes id me i f (λ n me'. Is × told n me')
 on_kept o homes id me i f told Is is allowed t h far at small = let r = allowed t h far at small in (r.0, r.1, r.2, r.3, (is, r.4))
 
--- the same of a step on a word of the caller's slot, by the word's index
+-- the same for a step on a word in the caller's slot, which is given by its index
 step_made : (o : Opening) (homes id : ℕ) (me : Sighted) (i : ℕ) (is : plain me ≡ (seat.Caller (caller_of me.0.view), [])) (index : ℕ → ℕ) → index (caller_of me.0.view).key.slot ≡ i
     → (kind : ℕ → StepKind) → IsQuiet kind → (f : ℕ → ℕ) (aft : ℕ → CallerView → CallerView) (told : ℕ → Seated → Type 0) → Tells o homes id me (index (caller_of me.0.view).key.slot) is aft told
     → ((t t' : Table) (j : ℕ) → (let k : ℕ = index (caller_of me.0.view).key.slot in Plays t (suc j) k f (seat.Caller (caller_of me.0.view)) (seat.Caller (aft (slice_index t.words k) (caller_of me.0.view))) t') → WordStep t (kind j) t')
@@ -176,7 +179,7 @@ module _ (o : Opening) (homes id : ℕ) (me : Sighted) (i : ℕ) (is : plain me 
   release_made idles settled = step_made o homes id me i is hold_index its releases (λ j. refl) (minus 1) after_release (CallerBecomes after_release no_step (plain me))
       (λ t h far at small. refl) (λ t t' j p. (on_c, (idles, settled), p))
 
-  -- the same, if the most holds of a slot are named
+  -- a release, with the greatest number of holds of a slot given
   pub release_of_made : may_release on_c.phase ≡ true → on_c.undo_due ≡ false → (most : ℕ) → most ≡ o.holds
       → Allows (Kept o) homes id me i (minus 1) (λ n me'. (i ≡ hold_index on_c.key.slot)
       × (CallerBecomes after_release no_step (plain me) n (plain me') × WasReleasedAt (caller_sight me.0) (caller_sight me'.0) n) × (most ≡ me.0.seen.opening.holds))
@@ -189,7 +192,7 @@ module _ (o : Opening) (homes id : ℕ) (me : Sighted) (i : ℕ) (is : plain me 
       let r = made t h far at small in
       (r.0, r.1, r.2, r.3, (sym its, r.4, named ∙ ap (λ (x : Opening). x.holds) (sym (h.seen id me.0 at).0)))
 
--- a step on the count of its slot's sleepers
+-- each step on the count of sleepers at the caller's slot
 module _ (o : Opening) (homes id : ℕ) (me : Sighted) (i : ℕ) (is : plain me ≡ (seat.Caller (caller_of me.0.view), [])) (its : sleepers_index (caller_of me.0.view).key.slot ≡ i) where
   abbrev by_c : CallerView
   by_c = caller_of me.0.view
@@ -212,7 +215,7 @@ module _ (o : Opening) (homes id : ℕ) (me : Sighted) (i : ℕ) (is : plain me 
       (subst (λ (k : ℕ). Allows (Kept o) homes id me k same Told) its
       (finding o homes id me at is (loads_sleepers by_c.key.slot) (λ j. refl) same unmoved told (λ t h far at small. refl) (λ t t' j p. (by_c, refl, p))))
 
--- what a caller's step finds goes into its view
+-- the word that a caller's step finds is in its view after the step
 module _ (before after : CallerSight) (kind : ℕ → StepKind) (x : WasMade kind before after) where
   step_found : (aft : ℕ → CallerView → CallerView) (May : CallerView → Type 0) (index : ℕ → ℕ) (f : ℕ → ℕ) → ((n : ℕ) (c : CallerView) → (aft n c).found ≡ n)
       → CallerPlays aft May index f x.found x.caller x.left → WasFound before after (index before.view.key.slot) after.view.found
@@ -235,7 +238,7 @@ module _ (before after : CallerSight) (kind : ℕ → StepKind) (x : WasMade kin
         goes_on = x.seen;
       }
 
--- a view after a step that takes one of two courses keeps what was found
+-- the word that was found is in the view, whichever of its two outcomes the step has
 pub either_found : (b : Bool) (x y : CallerView) (n : ℕ) → x.found ≡ n → y.found ≡ n → (if b then x else y).found ≡ n
 either_found true x y n p q = p
 either_found false x y n p q = q
@@ -252,7 +255,8 @@ look_hidden_found before after x = step_found before after looks_hidden x after_
 pub try_found : (before after : CallerSight) → WasMade tries before after → WasFound before after (active_index before.view.key.slot) after.view.found
 try_found before after x = step_found before after tries x after_try IsAtRest active_index (plus 1) (λ n c. either_found (keeps_out n) _ _ n refl refl) x.step
 
--- what was found stays so while the run goes on, if the seat's last step leaves the word that it says
+-- what an earlier step found is still in the view after one more step of the seat, if this step leaves it
+-- there
 pub found_later : (before between after : CallerSight) (kind : ℕ → StepKind) (word : ℕ) → WasFound before between word between.view.found → WasMade kind between after → after.view.found ≡ between.view.found
     → WasFound before after word after.view.found
 found_later before middle after kind word f x same =
@@ -272,13 +276,13 @@ found_later before middle after kind word f x same =
           (append_assoc (log ++ f.later) x.between (kind x.caller ∷ []) ∙ append_assoc log f.later more);
     }
 
--- and while it spends the wake that it owes
+-- the same if the seat has spent the wake that it owed
 pub found_spent : (before middle after : CallerSight) (word : ℕ) (wanted : Bool) → WasFound before middle word middle.view.found → WakeSpent wanted middle after → after.view.found ≡ middle.view.found
     → WasFound before after word after.view.found
 found_spent before middle after word true f x same = found_later before middle after (loads_sleepers middle.view.key.slot) word f x.1.0 same
 found_spent before middle after word false f x same = subst (λ (s : CallerSight). WasFound before s word s.view.found) (sym x) f
 
--- a try that let its caller run found its key live
+-- a try that let its caller run found the caller's key live
 pub was_live : (before after : CallerSight) → WasMade tries before after → after.view.phase ≡ Running → WasLetInLive before after
 was_live before after x runs =
     let slots : ℕ = before.seen.opening.slots in

@@ -1,4 +1,4 @@
--- The steps of the Master, as the table asks for them.
+-- The table allows each step of the Master.
 use Rattle.std.proofs.Common.{◌≡◌, ℕ, zero, suc, ◌+◌, ◌-◌, ◌*◌, ◌/◌, ◌%◌, ◌^◌, ◌<◌, ◌≤◌, Bool, true, false, List, [], ◌∷◌, ◌++◌, length, set, get_or, refl, sym, ap, ◌∙◌, subst, arith, length-set}
 use Rattle.std.specs.Prelude.{slice_get, Option, Some, None, is_some}
 use Rattle.std.specs.Option.{option_map}
@@ -24,7 +24,7 @@ use Rattle.kf_words.proofs.Seating.{master_seat, seats-push}
 use Rattle.kf_words.proofs.MasterSteps.{pin_counts, pin_back, freshen, birth, unlink, rise, mark_node}
 use Rattle.kf_words.proofs.MasterViews.{give, load_kept, look_kept}
 
--- what a step of the Master owes, if the word i becomes f of what it was
+-- what must be proved of a step of the Master that changes word i by f, if the table has this many slots
 abbrev pub Owes : ℕ → MasterView → ℕ → (ℕ → ℕ) → (ℕ → MasterView → MasterView) → Type 0
 Owes count m i f after =
     (words : List ℕ) (cs : List CallerView) → length m.slots ≡ count → Shows words m cs → get_or words i 0 < 18446744073709551616
@@ -49,12 +49,12 @@ allows count limit homes id me i f after is owes t h _ at small =
       refl,
     )
 
--- a step may say besides what holds of its word
+-- any true statement may be added to what is said of a step
 pub on_word : (holds : State (Unit {0}) View → Type 0) (homes id : ℕ) (me : Seated) (i : ℕ) (f : ℕ → ℕ) (told : ℕ → Seated → Type 0) (Is : Type 0) → Is
     → Allows holds homes id me i f told → Allows holds homes id me i f (λ n me'. Is × told n me')
 on_word holds homes id me i f told Is is allowed t h far at small = let r = allowed t h far at small in (r.0, r.1, r.2, r.3, (is, r.4))
 
--- the slot of a word that is one of its two
+-- the slot of an active word, and of a hold word
 pub active_slot : (slot i : ℕ) → active_index slot ≡ i → slot_of i ≡ slot
 active_slot slot i its = omega arith
 
@@ -67,7 +67,7 @@ active_here slot i its = omega arith
 pub hold_here : (slot i : ℕ) → hold_index slot ≡ i → i ≡ hold_index (slot_of i)
 hold_here slot i its = omega arith
 
--- what a step on a slot's word of this index owes
+-- what must be proved of a step of the Master on word i, if the slot of the word is given
 pub OwesSlot : MasterView → ℕ → ℕ → (ℕ → ℕ) → (ℕ → ℕ → MasterView → MasterView) → Type 0
 OwesSlot m slot i f after =
     (words : List ℕ) (cs : List CallerView) → Shows words m cs → get_or words i 0 < 18446744073709551616
@@ -96,7 +96,7 @@ hold_allows count limit homes id me slot i f after is its owes =
     on_word (Shown count limit) homes id me i f (MasterBecomes after (step 0 i 0 0 none) me) (i ≡ hold_index (slot_of i)) (hold_here slot i its)
     (slot_allows count limit homes id me slot i f after is (hold_slot slot i its) (subst (λ (k : ℕ). OwesSlot (master_of me.0) slot k f after) its owes))
 
--- what the step says, by the slot
+-- what is said of the step, in terms of its slot
 pub told : (me me' : Seated) (slot i found : ℕ) (after : ℕ → ℕ → MasterView → MasterView) → me ≡ (seat.Master (master_of me.0), []) → slot_of i ≡ slot
     → me' ≡ (seat.Master (after (slot_of i) found (master_of me.0)), me.1) → me' ≡ (seat.Master (after slot found (master_of me.0)), [])
 told me me' slot i found after is back now =
@@ -171,7 +171,7 @@ pub at_end : {A : Type 0} (l : List A) (x : A) → slice_get (l ++ x ∷ []) (le
 at_end [] x = refl
 at_end (y ∷ ys) x = at_end ys x
 
--- the load that was just made
+-- the load that was just made found such a word
 pub found_by : (Such : ℕ → Type 0) (m m' : MasterView) (slot found : ℕ) → m' ≡ with_load slot found m → Such found → Found Such m' slot
 found_by Such m m' slot found is such =
     let load : Load = record { slot = slot; word = found } in
@@ -220,7 +220,7 @@ load_allowed count limit homes id me slot i is its near t h far at small =
     ∙ sym (ap (λ (y : SlotState). is_some y.marks) known) in
     (r.0, r.1, r.2, r.3, (r.4.0, (r.4.1, subst (λ (k : ℕ). TellsSlot m k (get_or t.words i 0)) (sym (hold_slot slot i its)) (generation, node))))
 
--- the state that the step writes, at a state that is known
+-- the state that the step writes, if the old state is known
 remarked_is : (m : MasterView) (slot : ℕ) (state : SlotState) (x : NodeFlags) (change : NodeFlags → NodeFlags) → slice_get m.slots slot ≡ Some state → state.marks ≡ Some x
     → remarked change (state_at m slot) ≡ record { generation = state.generation; marks = Some (change x) }
 remarked_is m slot state x change its there =

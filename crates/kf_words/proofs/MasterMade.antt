@@ -1,4 +1,5 @@
--- Each step of the Master is the next of the one run, and says so beside its new view.
+-- Each step of the Master is the next step of the one run. The step says so, and it also says what the
+-- Master's view is after it.
 use Rattle.std.proofs.Common.{◌≡◌, ℕ, ◌+◌, ◌<◌, false, List, [], ◌∷◌, ◌++◌, length, set, refl, sym, ap, ◌∙◌, subst}
 use Rattle.std.specs.Prelude.{slice_index, Some, None}
 use mathlib.Core.Option.{some, none}
@@ -32,12 +33,13 @@ module _ (o : Opening) (homes id : ℕ) (me : Sighted) (slot : ℕ) (is : plain 
   abbrev m : MasterView
   m = master_of me.0.view
 
-  -- what the step on the word i says of the view after it, by the word that it found
+  -- in each table that meets the rule, `told` is true of the word that the step finds and the Master's view
+  -- after it
   abbrev Tells : ℕ → (ℕ → ℕ → MasterView → MasterView) → (ℕ → Seated → Type 0) → Type 0
   Tells i after told = (t : Table) → Shown o.slots o.holds t → length t.homes ≡ homes → get_elem? t.views id ≡ some me.0.view → slice_index t.words i < 18446744073709551616
       → told (slice_index t.words i) (seat.Master (after (slot_of i) (slice_index t.words i) m), me.1)
 
-  -- on the word that this index has of the slot
+  -- a step on the slot's word of this index is the next step of the one run
   there_made : (index : ℕ → ℕ) → slot_of (index slot) ≡ slot → (kind : ℕ → StepKind) → IsQuiet kind → (f : ℕ → ℕ) (after : ℕ → ℕ → MasterView → MasterView) (told : ℕ → Seated → Type 0) → Tells (index slot) after told
       → ((t t' : Table) → Plays t 0 (index slot) f (seat.Master m) (seat.Master (after slot (slice_index t.words (index slot)) m)) t' → WordStep t (kind slot) t')
       → Allows (Kept o) homes id me (index slot) f (λ n me'. (index slot ≡ index (slot_of (index slot))) × (told n (plain me') × WasMadeByMaster (kind (slot_of (index slot))) (master_sight me.0) (master_sight me'.0)))
@@ -138,7 +140,7 @@ module _ (o : Opening) (homes id : ℕ) (me : Sighted) (slot : ℕ) (is : plain 
     mark_made x k marks undoomed bits = on_active_word marks_node (λ j. refl) (plus k) (unread (with_marks doomed_marks))
         (λ t t' p. (x, (m, (marks, undoomed), subst (λ (b : ℕ). Plays t 0 (active_index slot) (plus b) (seat.Master m) (seat.Master (with_marks doomed_marks slot m)) t') bits p)))
 
-  -- the pinned hold of a slot gets its seat
+  -- the hold that the Master pinned gets its seat
   pub splits_made : slot < length m.slots → m.pinning ≡ Some slot → Splits (Kept o) id me.0 (after_giving me.0) (given me.0)
   splits_made near pins t h at =
       let e : Table = erased t in
@@ -149,7 +151,7 @@ module _ (o : Opening) (homes id : ℕ) (me : Sighted) (slot : ℕ) (is : plain 
       split_kept o t h id me.0 at (after_giving me.0) (given me.0) (splits slot) refl refl refl refl refl
       (m, there, near, pins, ap (λ (j : ℕ). let x : Table = record { words = t.words; homes = t.homes; views = set e.views j (seat.Master (after_split m)) ++ seat.Caller (hold_for m m.pinning) ∷ [] } in x) p.0)
 
-  -- a step that changes no word and no view, by a load of any word
+  -- a step that changes no word and no view, and loads any word
   module _ (kind : StepKind) (stays : (e : Table) → get_elem? e.views 0 ≡ some (seat.Master m) → WordStep e kind e) (i : ℕ) where
     stay_made : Allows (Kept o) homes id me i same (λ n me'. (plain me' ≡ plain me) × WasMadeByMaster kind (master_sight me.0) (master_sight me'.0) × IsPrefix me.0.shown me'.0.seen.steps)
     stay_made t h far at small =
@@ -191,11 +193,11 @@ module _ (o : Opening) (homes id : ℕ) (me : Sighted) (slot : ℕ) (is : plain 
       let r = stay_made (notes note) (λ e there. ((m, there), refl)) i t h far at small in
       (r.0, r.1, r.2, r.3, (r.4.0, r.4.1))
 
-  -- what was passed on is compared
+  -- the Master compares what it was shown with the run so far
   pub compare_made : (i : ℕ) → Allows (Kept o) homes id me i same (MakesCompare (step 0 i 0 0 none) me)
   compare_made i = stay_made compares (λ e there. ((m, there), refl)) i
 
-  -- a new seat has seen what the Master has
+  -- a new seat has seen what the Master has seen
   pub answer_splits : 0 < length m.slots → Splits (Kept o) id me.0 me.0 (answered me.0)
   answer_splits some_slot t h at =
       let e : Table = erased t in
@@ -206,7 +208,7 @@ module _ (o : Opening) (homes id : ℕ) (me : Sighted) (slot : ℕ) (is : plain 
       split_kept o t h id me.0 at me.0 (answered me.0) answers refl refl refl refl refl
       (m, there, some_slot, ap (λ (l : List View). let x : Table = record { words = t.words; homes = t.homes; views = l ++ (answered me.0).view ∷ [] } in x) (set_again e.views id me.0.view own))
 
--- a seat is shown what another has seen
+-- a seat is shown what another seat has seen
 pub hear_joins : (o : Opening) (id : ℕ) (v : Sight) (other : ℕ) (w : Sight) → Joins (Kept o) id v other w (hears v w) w
 hear_joins o id v other w t h at apart there =
     join_kept o t h id v at other w (hears v w) refl (h.seen id v at) (from_there o t h id v at other w (hears v w) apart there).1 (all_notes o t h id v at) there

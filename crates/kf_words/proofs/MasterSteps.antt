@@ -59,12 +59,13 @@ module _ (words : List ℕ) (m : MasterView) (cs : List CallerView) (shows : Sho
     pub users_few : users slot cs ≤ 65535
     users_few = let a = users≤holders slot in let b = shown_holds.1 in let d = shows.few in omega arith
 
-    -- the new state of one slot, and of the Master's memory
+    -- the Master's next view: the new state of one slot, and what the Master remembers
     module _ (words' : List ℕ) (state' : SlotState) (p' f' : Option ℕ) (l' b' : List Load) (k' : Option Load) where
       abbrev next : MasterView
       next = record { limit = m.limit; slots = set m.slots slot state'; pinning = p'; fresh = f'; loads = l'; at_birth = b'; looked = k' }
 
-      -- the slot keeps its generation, or nobody holds it
+      -- the rule holds after the step if these conditions are met. The slot keeps its generation, or nobody
+      -- holds it
       changed : (state'.generation ≡ state.generation) ⊎ (holders slot cs ≡ 0)
           → length words' ≡ length words
           → ShowsMarks (active_word words' slot) state'.marks (users slot cs) (hiders slot cs)
@@ -118,7 +119,7 @@ module _ (words : List ℕ) (m : MasterView) (cs : List CallerView) (shows : Sho
           there : (k : ℕ) (x : SlotState) → k ≢ slot → slice_get (set m.slots slot state') k ≡ Some x → slice_get m.slots k ≡ Some x
           there k x ne at = sym (slice_get-set_other m.slots slot k state' ne) ∙ at
 
-    -- the state stays
+    -- writing the state that a slot has changes no slot
     same_slots : set m.slots slot state ≡ m.slots
     same_slots = stays m.slots slot its
       where
@@ -157,7 +158,7 @@ module _ (words : List ℕ) (m : MasterView) (cs : List CallerView) (shows : Sho
     nothing_loaded : (word : ℕ → ℕ) (i : ℕ) (load : Load) → slice_get [] i ≡ Some load → StillHolds m.limit load.word (word load.slot)
     nothing_loaded word i load e = absurd (none-some load e)
 
-    -- one hold more, which no seat has yet
+    -- one more hold is counted, which has no seat yet
     pub pin_counts : m.pinning ≡ None → HasRoom m.limit hold → hold < 18446744073709551616
         → Shows (set words (hold_index slot) ((hold + 1) % 2 ^ 64)) (record (on_hold m) { pinning = Some slot }) cs
     pin_counts no_pin_yet room small =
@@ -178,7 +179,7 @@ module _ (words : List ℕ) (m : MasterView) (cs : List CallerView) (shows : Sho
         (nothing_loaded _) (nothing_fresh _) (no_look _)
         (subst Safe (sym same_world) shows.safe))
 
-    -- a pin that no seat has is taken back
+    -- a counted hold that has no seat yet is taken back
     pub pin_back : m.pinning ≡ Some slot → hold < 18446744073709551616
         → Shows (set words (hold_index slot) ((hold + (2 ^ 64 - 1)) % 2 ^ 64)) (record (on_hold m) { pinning = None }) cs
     pin_back has_pin small =
@@ -208,7 +209,7 @@ module _ (words : List ℕ) (m : MasterView) (cs : List CallerView) (shows : Sho
     unlinked_state None e = refl
     unlinked_state (Some x) e = absurd (let y : true ≡ false = e in cc)
 
-    -- the active word of a free slot is stored afresh
+    -- the active word of a free slot becomes BIAS
     pub freshen : IsFree hold → Shows (set words (active_index slot) bias) (record (on_active m) { fresh = Some slot }) cs
     freshen free =
         let u = unheld free in
@@ -229,7 +230,7 @@ module _ (words : List ℕ) (m : MasterView) (cs : List CallerView) (shows : Sho
         (no_look _)
         (subst Safe (sym same_world) shows.safe))
 
-    -- who is on a slot without holders is spent
+    -- a caller on a slot without holders is spent
     spent_if : (p : Phase) → (is_spent p ≡ false → ⊥) → p ≡ Spent
     spent_if Spent h = refl
     spent_if Still h = absurd (h refl)
@@ -281,7 +282,7 @@ module _ (words : List ℕ) (m : MasterView) (cs : List CallerView) (shows : Sho
           unheld = λ c k phase there same. only_spent c k phase there same nobody;
         }))
 
-    -- a node leaves the tree, after its word was found drained
+    -- a node whose active word was found drained leaves the tree
     pub unlink : (x : NodeFlags) (found : ℕ) → state.marks ≡ Some x → m.looked ≡ Some (record { slot = slot; word = found }) → is_drained found ≡ true → hold < 18446744073709551616
         → Shows (set words (hold_index slot) ((hold + (2 ^ 64 - linked)) % 2 ^ 64))
         (record (on_hold m) { slots = set m.slots slot (record { generation = state.generation; marks = None }) }) cs

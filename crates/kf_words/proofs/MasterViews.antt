@@ -29,7 +29,7 @@ use Rattle.kf_words.proofs.Seating.{at_caller, tally-push, tally-one}
 use Rattle.kf_words.proofs.MasterSteps.{users_few}
 
 module _ (words : List ℕ) (m : MasterView) (cs : List CallerView) (shows : Shows words m cs) where
-  -- the pin goes to a new seat
+  -- the pinned hold goes to a new seat
   pub give : (slot : ℕ) (state : SlotState) → slice_get m.slots slot ≡ Some state → m.pinning ≡ Some slot → Shows words (after_split m) (cs ++ new_hold (last_key slot state) ∷ [])
   give slot state its pins = record {
     wide = shows.wide;

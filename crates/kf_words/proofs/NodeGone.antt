@@ -1,4 +1,4 @@
--- A key whose node is out, or whose slot has come to a later generation, is not linked again.
+-- A key whose node has left the tree, or whose slot has a later generation, is never linked again.
 use Rattle.std.proofs.Common.{◌≡◌, ◌⊎◌, ℕ, ◌<◌, ◌≤◌, Bool, true, false, List, if◌then◌else◌, refl, sym, ap, ◌∙◌, subst, ⊎_elim, arith, eq-eqb}
 use Rattle.std.specs.Prelude.{slice_get, Option, Some, None, is_some}
 use Rattle.std.proofs.lemmas.Option.{slice_get_within, same_Some, none-some}
@@ -21,7 +21,7 @@ use Rattle.kf_words.specs.TableSteps.{Table, StepKind, world, WordRun}
 use Rattle.kf_words.proofs.Led.{Alone, TakenOut, Came, Passed}
 use Rattle.kf_words.proofs.Runs.{run_holds}
 
--- the key's node is out, or its slot has come to a later generation
+-- the key's node has left the tree, or its slot has a later generation
 pub record Gone (w : BareWorld) (k : Key) : Type 0 where
   pub last : SlotState
   pub there : slice_get w.slots k.slot ≡ Some last
@@ -46,7 +46,7 @@ gone_written w key k m p is later h = dite (ℕ_discrete k.slot key.slot)
       out = h.out;
     })
 
--- a linked node is another
+-- what is gone stays gone if the marks of a linked node change
 gone_linked : (w : BareWorld) (key k : Key) (m : NodeFlags) (m' : Option NodeFlags) → marks w key ≡ Some m → Gone w k → Gone (with_marks w key m') k
 gone_linked w key k m m' e =
     gone_written w key k m' (slot_state key.generation (Some m)) (in_place (slice_get w.slots key.slot) key.generation m e)
@@ -58,7 +58,7 @@ gone_born : (w : BareWorld) (key k : Key) (m : Option NodeFlags) → MayBeBorn w
 gone_born w key k m may = gone_written w key k m (slot_state may.last None) may.unlinked
     (λ same h one. let c = h.come in let g : h.last.generation ≡ may.last = ap (λ (x : SlotState). x.generation) one in let n = may.next in omega (arith, c, g, n))
 
--- no other step writes a slot
+-- what is gone stays gone if no slot changes
 gone_still : (w w' : BareWorld) (k : Key) → w'.slots ≡ w.slots → Gone w k → Gone w' k
 gone_still w w' k same h = record { last = h.last; there = ap (λ (l : List SlotState). slice_get l k.slot) same ∙ h.there; come = h.come; out = h.out }
 
@@ -93,7 +93,7 @@ gone_alone k kind w w' a h = ⊎_elim
     m)
     a
 
--- what is gone is not linked again
+-- what is gone stays gone over a run
 pub gone_for_good : (slots limit : ℕ) (kinds : List StepKind) (t u : Table) (k : Key) → Shown slots limit t → WordRun t kinds u → Gone (world t) k → Gone (world u) k
 gone_for_good slots limit kinds t u k g r = run_holds (λ x. Gone x k) (λ x e y s p. gone_step x e y k s p) (gone_alone k) slots limit kinds t u g r
 
@@ -116,7 +116,7 @@ unlinked_gone w k h none = record {
     no_marks None e = refl
     no_marks (Some x) e = absurd (let y : true ≡ false = e in cc)
 
--- a linked key's slot is at its generation, with a node
+-- the slot of a linked key has the key's generation and a node
 pub linked_here : (w : BareWorld) (k : Key) → is_linked w k ≡ true → (m : NodeFlags) × (slice_get w.slots k.slot ≡ Some (slot_state k.generation (Some m)))
 linked_here w k node =
     let x : (m : NodeFlags) × (marks w k ≡ Some m) = linked_marks (marks w k) node in

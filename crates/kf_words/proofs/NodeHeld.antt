@@ -1,4 +1,4 @@
--- The node of a hold that a caller made of a key is the one that was born with the key.
+-- If a caller made a hold of a given key, the node of the hold is the one that was born with the key.
 use Rattle.std.proofs.Common.{◌≡◌, ℕ, List, [], ◌∷◌, ◌++◌, sym, ap, ◌∙◌, subst, arith, append_assoc, append-nil}
 use Rattle.kf_core.specs.declared.key.Key.{Key}
 use Rattle.kf_core.specs.declared.key.Node.{Node}

@@ -19,7 +19,7 @@ use Rattle.kf_words.specs.Steps.{master_of, state_at, no_state, after_split, new
 use Rattle.kf_words.specs.TableSteps.{Table, StepKind, master_in, WordStep, tries, undoes, leaves, breaks, restores, looks, parts, hides, looks_hidden, shows, releases, sees_holds, counts_hold, shares, sleeps, awakes, loads_sleepers, loads_hold, pins_hold, unpins_hold, splits, stores_fresh, births, takes_bias, marks_node, looks_over, unlinks, sees_holds_at, counts_hold_at, hands_on, stores_node, reads_node, notes, reports, answers, compares}
 use Rattle.kf_words.specs.NodeWords.{NodeNotes, noted_by}
 
--- a step that puts no word of a node, and is no birth
+-- a step that stores no word of a node and is no birth
 pub plain : StepKind → Bool
 plain (stores_node slot place n) = false
 plain (births slot) = false
@@ -58,7 +58,7 @@ plain (reports j) = true
 plain answers = true
 plain compares = true
 
--- it changes nothing of what was put
+-- such a step leaves what is noted of the words of nodes as it was
 pub unnoted : (kind : StepKind) → plain kind ≡ true → (w : NodeNotes) → noted_by kind w ≡ w
 unfolding plain
 unnoted (stores_node slot place n) e w = absurd (let x : false ≡ true = e in cc)
@@ -98,7 +98,7 @@ unnoted (reports j) e w = refl
 unnoted answers e w = refl
 unnoted compares e w = refl
 
--- a step of these kinds, or one of the two others
+-- each step is of one of these kinds, or a birth, or stores a word of a node
 pub which : (kind : StepKind) → (plain kind ≡ true) ⊎ (((slot : ℕ) × (kind ≡ births slot)) ⊎ ((slot : ℕ) × (place : ℕ) × (n : ℕ) × (kind ≡ stores_node slot place n)))
 unfolding plain
 which (stores_node slot place n) = inr (inr (slot, place, n, refl))
@@ -142,14 +142,14 @@ which compares = inl refl
 abbrev pub slots_in : Table → List SlotState
 slots_in t = (master_in t.views).slots
 
--- the words of nodes are left, no slot comes to have a node, and no generation changes
+-- the words of nodes stay, the number of slots stays, no slot gets a node, and no generation changes
 pub record Leaves (t t' : Table) : Type 0 where
   pub words : (slot place : ℕ) → place < 5 → slice_index t'.words (node_index place slot) ≡ slice_index t.words (node_index place slot)
   pub wide : length (slots_in t') ≡ length (slots_in t)
   pub nodes : (slot : ℕ) (state : SlotState) → slice_get (slots_in t') slot ≡ Some state
       → (old : SlotState) × (slice_get (slots_in t) slot ≡ Some old) × (old.generation ≡ state.generation) × (is_some state.marks ≡ true → is_some old.marks ≡ true)
 
--- if the Master's slots are the same
+-- no slot gets a node and no generation changes if the Master's slots are the same
 same_nodes : (l l' : List SlotState) → l' ≡ l → (slot : ℕ) (state : SlotState) → slice_get l' slot ≡ Some state
     → (old : SlotState) × (slice_get l slot ≡ Some old) × (old.generation ≡ state.generation) × (is_some state.marks ≡ true → is_some old.marks ≡ true)
 same_nodes l l' e slot state at = (state, ap (λ (x : List SlotState). slice_get x slot) (sym e) ∙ at, refl, (λ h. h))
@@ -174,7 +174,7 @@ master_splits : (l : List View) (m m' : MasterView) (b : View) → get_elem? l 0
 master_splits [] m m' b e = absurd (some-ne-none (seat.Master m) (sym e))
 master_splits (x ∷ xs) m m' b e = refl
 
--- a step of a caller on a word that is none of a node's
+-- a step of a caller on a word that is not one of a node's words
 by_caller : (t t' : Table) (i n j : ℕ) (v : View) → ((slot place : ℕ) → place < 5 → node_index place slot ≢ i) → t' ≡ stepped t i n (suc j) [] v keeps → Leaves t t'
 by_caller t t' i n j v apart becomes =
     let same : slots_in t' ≡ slots_in t = ap (λ (x : Table). slots_in x) becomes ∙ ap (λ (m : MasterView). m.slots) (caller_stays t.views j v) in
@@ -184,7 +184,7 @@ by_caller t t' i n j v apart becomes =
       nodes = same_nodes (slots_in t) (slots_in t') same;
     }
 
--- a load, of any word
+-- a load of any word by a caller
 by_load : (t t' : Table) (i j : ℕ) (v : View) → t' ≡ stepped t i (slice_index t.words i) (suc j) [] v keeps → Leaves t t'
 by_load t t' i j v becomes =
     let same : slots_in t' ≡ slots_in t = ap (λ (x : Table). slots_in x) becomes ∙ ap (λ (m : MasterView). m.slots) (caller_stays t.views j v) in
@@ -207,7 +207,7 @@ by_split t t' words same = record {
 by_nothing : (t t' : Table) → t' ≡ t → Leaves t t'
 by_nothing t t' same = by_split t t' (ap (λ (x : Table). x.words) same) (ap (λ (x : Table). slots_in x) same)
 
--- a seat comes behind the others
+-- a new seat behind the others leaves the Master's view as it was
 comes_behind : (l : List View) (v : View) → (l ≡ [] → ⊥) → master_in (l ++ v ∷ []) ≡ master_in l
 comes_behind [] v some_seat = absurd (some_seat refl)
 comes_behind (x ∷ xs) v some_seat = refl
@@ -219,7 +219,7 @@ by_new_seat : (t t' : Table) (v : View) → (t.views ≡ [] → ⊥) → t' ≡ 
 by_new_seat t t' v some_seat becomes =
     by_split t t' (ap (λ (x : Table). x.words) becomes) (ap (λ (x : Table). slots_in x) becomes ∙ ap (λ (m : MasterView). m.slots) (comes_behind t.views v some_seat))
 
--- a step of the Master on such a word
+-- a step of the Master on a word that is not one of a node's words
 by_master : (t t' : Table) (i n : ℕ) (m m' : MasterView) → get_elem? t.views 0 ≡ some (seat.Master m) → ((slot place : ℕ) → place < 5 → node_index place slot ≢ i)
     → t' ≡ stepped t i n 0 [] (seat.Master m') keeps → length m'.slots ≡ length m.slots
     → ((slot : ℕ) (state : SlotState) → slice_get m'.slots slot ≡ Some state → (old : SlotState) × (slice_get m.slots slot ≡ Some old) × (old.generation ≡ state.generation) × (is_some state.marks ≡ true → is_some old.marks ≡ true))
@@ -235,7 +235,7 @@ by_master t t' i n m m' there apart becomes wide nodes =
           (r.0, ap (λ (l : List SlotState). slice_get l slot) before ∙ r.1, r.2, r.3);
     }
 
--- the state of one slot is written, with its generation, and with a node only if it had one
+-- the state of one slot is written: with the generation that it had, and with a node only if it had one
 one_written : (l : List SlotState) (s : ℕ) (was new : SlotState) → slice_get l s ≡ Some was → was.generation ≡ new.generation → (is_some new.marks ≡ true → is_some was.marks ≡ true)
     → (slot : ℕ) (state : SlotState) → slice_get (set l s new) slot ≡ Some state
     → (old : SlotState) × (slice_get l slot ≡ Some old) × (old.generation ≡ state.generation) × (is_some state.marks ≡ true → is_some old.marks ≡ true)
@@ -254,7 +254,7 @@ on_hold k slot place few e = omega (arith, few, e)
 on_sleepers : (k slot place : ℕ) → place < 5 → node_index place slot ≢ sleepers_index k
 on_sleepers k slot place few e = omega (arith, few, e)
 
--- the state that a slot is read to have, if it is known
+-- if the state of a slot is known, it is the one that is read
 pub state_is : (m : MasterView) (slot : ℕ) (state : SlotState) → slice_get m.slots slot ≡ Some state → state_at m slot ≡ state
 state_is m slot state its = get_or_from_slice_get m.slots slot state no_state its
 

@@ -1,4 +1,5 @@
--- A word of a node that the Master puts is the next step of the one run, and says which word, and the number.
+-- When the Master stores a word of a node, this is the next step of the one run, which says which word was
+-- stored and which number.
 use Rattle.std.proofs.Common.{◌≡◌, ℕ, ◌<◌, [], length, refl, sym, subst, arith}
 use Rattle.std.specs.Prelude.{Some}
 use mathlib.Core.Option.{none}

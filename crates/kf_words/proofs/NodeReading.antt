@@ -1,4 +1,4 @@
--- A load of a word of any slot's node is the next step of the one run, and says which word.
+-- A load of a word of any slot's node is the next step of the one run, which says which word was loaded.
 use Rattle.std.proofs.Common.{◌≡◌, ℕ, ◌<◌, List, [], refl, sym, ap, ◌∙◌, subst}
 use Rattle.std.specs.Prelude.{slice_index}
 use mathlib.Core.Option.{none}

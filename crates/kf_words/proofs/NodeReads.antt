@@ -1,4 +1,5 @@
--- What a caller reads of a node, once it has counted a hold of it, is what stood there at the node's birth.
+-- What a caller reads of a node, after it counted a hold of the node's key and before it finds the key still
+-- linked, is what was stored there when the node was born.
 use Rattle.std.proofs.Common.{◌≡◌, ℕ, suc, ◌≤◌, true, List, [], ◌∷◌, ◌++◌, refl, sym, ap, ◌∙◌, subst, arith, append_assoc}
 use Rattle.std.specs.Prelude.{slice_index}
 use mathlib.Core.Option.{some, some-injective}
@@ -28,7 +29,7 @@ use Rattle.kf_words.proofs.Pinned.{counted_linked}
 use Rattle.kf_words.proofs.WordSteps.{world_is}
 use Rattle.kf_words.proofs.NodeWords.{notes_parts, run_joined, linked_as_born, read_as_born}
 
--- what a load of any word by a caller finds goes into its view
+-- the word that a caller's load finds is in its view after the load
 load_finds : (before after : CallerSight) (kind : ℕ → StepKind) (x : WasMade kind before after) (i : ℕ) (c : CallerView) → get_elem? x.found.views (suc x.caller) ≡ some (seat.Caller c)
     → x.left ≡ stepped x.found i (slice_index x.found.words i) (suc x.caller) [] (seat.Caller (after_miss (slice_index x.found.words i) c)) keeps → after.view.found ≡ slice_index x.found.words i
 load_finds before after kind x i c there becomes =
@@ -53,7 +54,7 @@ module _ (key : Key) (first looked : CallerSight) (x : WasMade (sees_holds_at ke
       subst (λ (w : BareWorld). is_linked w key ≡ true) (sym (world_is x.found h.master h.callers h.views))
       (ap (λ (k : Key). is_linked (bare_world h.master h.callers) k) (sym its) ∙ linked_key x.found.words h.master h.callers h.shows key.slot here.0)
 
--- the table in which the hold was counted has slots, each with few holds
+-- the table in which the hold was counted has at least one slot, and at most 65,535 holds of each
 module _ (key : Key) (first counted : CallerSight) (x : WasMade (counts_hold_at key.slot) first counted) where
   some_slot : 1 ≤ first.seen.opening.slots
   some_slot = let h = x.shown in let n = near x.found.words h.master h.callers h.shows key.slot x.step.1.2.0 in let all = h.all_slots in omega (arith, n, all)
@@ -61,7 +62,7 @@ module _ (key : Key) (first counted : CallerSight) (x : WasMade (counts_hold_at 
   few_holds : first.seen.opening.holds ≤ 65535
   few_holds = let h = x.shown in let few = h.shows.few in let most = h.most_holds in omega (arith, few, most)
 
--- a run to a table that one of its beginnings leads to goes on from there
+-- if a beginning of a run leads to a table, the rest of the run goes on from that table
 goes_on_from : (o : Opening) (front rest : List StepKind) (t u : Table) → WordRun (opened_as o) front t → WordRun (opened_as o) (front ++ rest) u → WordRun t rest u
 goes_on_from o front rest t u r whole =
     let p = run_parts front rest (opened_as o) u whole in
@@ -79,7 +80,7 @@ read_is_born key place few first counted before read then last count pinned on1 
     let o2 : before.seen.opening ≡ o = ap (λ (s : Seen). s.opening) on1.1 ∙ o1 in
     let o3 : read.seen.opening ≡ o = ap (λ (s : Seen). s.opening) reads.seen ∙ o2 in
     let o4 : then.seen.opening ≡ o = ap (λ (s : Seen). s.opening) on2.1 ∙ o3 in
-    -- the steps that are seen before the read, and before the look
+    -- the steps that were seen before the read, and those before the look
     let s2 : before.seen.steps ++ reads.between ≡ a ++ mid =
     ap (λ (s : Seen). s.steps ++ reads.between) on1.1
     ∙ ap (λ (s : Seen). (s.steps ++ on1.0) ++ reads.between) count.seen
@@ -107,7 +108,7 @@ read_is_born key place few first counted before read then last count pinned on1 
     ∙ read_as_born o (some_slot key first counted count) (few_holds key first counted count) a mid end count.found reads.found look.found run_t to_u to_v key linked_t linked_v place few
     ∙ ap (λ (l : List StepKind). (notes_after no_notes l).born key.slot place) (append_assoc a mid end)
     ∙ ap (λ (x : NodeNotes). x.born key.slot place) (notes_parts no_notes a (mid ++ end))
-    -- the count puts no word of a node, and while the key is linked what stood there at its birth stays
+    -- the count stores no word of a node, and while the key is linked, what was stored at its birth stays
     ∙ linked_as_born w o.slots o.holds (mid ++ end) count.found look.found key count.shown (run_joined mid end count.found reads.found look.found to_u to_v) linked_t linked_v place
     ∙ ap (λ (x : NodeNotes). x.born key.slot place) (sym (notes_parts no_notes a (k1 ∷ [])))
     ∙ ap (λ (s : Seen). (notes_after no_notes s.steps).born key.slot place) (sym count.seen)

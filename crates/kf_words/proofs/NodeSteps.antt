@@ -1,4 +1,4 @@
--- A word of a slot's node that is put keeps the rule, which does not read it.
+-- Storing a word of a slot's node keeps the rule, which does not read that word.
 use Rattle.std.proofs.Common.{◌≡◌, ℕ, ◌+◌, ◌<◌, List, set, get_or, sym, ◌∙◌, subst, arith, length-set, get_or-set_other}
 use Rattle.kf_words.specs.declared.view.CallerView.{CallerView}
 use Rattle.kf_words.specs.declared.view.MasterView.{MasterView}

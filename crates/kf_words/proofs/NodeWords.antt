@@ -1,4 +1,5 @@
--- The words of nodes: each is the one that was put last, and while a node is linked as it was at its birth.
+-- The words of nodes: each is the one that was stored last, and while a node is linked, its words are as they
+-- were at its birth.
 use Rattle.std.proofs.Common.{◌&&◌, ◌≡◌, ◌≢◌, ◌⊎◌, ℕ, zero, suc, ◌+◌, ◌*◌, ◌<◌, ◌≤◌, Bool, true, false, eqb, List, [], ◌∷◌, ◌++◌, length, set, get_or, if◌then◌else◌, refl, sym, ap, ◌∙◌, subst, ⊎_elim, arith, length-set, get_or-set_same, get_or-set_other, eq-eqb, ne_eqb}
 use Rattle.std.specs.Prelude.{slice_get, slice_index, Some, is_some}
 use Rattle.std.specs.List.{repeat}
@@ -30,7 +31,7 @@ use Rattle.kf_words.proofs.Runs.{rule_kept, come_for_good}
 use Rattle.kf_words.proofs.NodeKinds.{plain, unnoted, which, slots_in, Leaves, master_is, master_now, on_active, on_hold, state_is, leaves_alone}
 use Rattle.kf_words.proofs.NodeGone.{gone_for_good, gone_unlinked, unlinked_gone, linked_here}
 
--- the words are those that were put last, and those of a linked node as at its birth
+-- the words are those that were stored last, and those of a linked node are as they were at its birth
 record Noted (w : NodeNotes) (t : Table) : Type 0 where
   put : (slot place : ℕ) → place < 5 → slot < length (slots_in t) → slice_index t.words (node_index place slot) ≡ w.now slot place
   as_born : (slot : ℕ) (state : SlotState) → slice_get (slots_in t) slot ≡ Some state → is_some state.marks ≡ true → (place : ℕ) → w.now slot place ≡ w.born slot place
@@ -145,7 +146,7 @@ noted_first o some_slot few =
       as_born = λ slot state at node place. refl;
     }
 
--- while a slot's generation stays, so does what stood there at its last birth
+-- while a slot's generation stays, so does what was stored at its last birth
 born_stays : (w : NodeNotes) (slots limit : ℕ) (kinds : List StepKind) (t u : Table) (k : Key) (a b : SlotState) → Shown slots limit t → WordRun t kinds u
     → slice_get (slots_in t) k.slot ≡ Some a → a.generation ≡ k.generation → slice_get (slots_in u) k.slot ≡ Some b → b.generation ≡ k.generation
     → (place : ℕ) → (notes_after w kinds).born k.slot place ≡ w.born k.slot place
@@ -193,7 +194,7 @@ born_stays w slots limit (kind ∷ kinds) t u k a b g r at same at' same' place 
     more)
     (which kind)
 
--- notes over two lists, one after the other
+-- the notes after two lists of steps are those after the first, continued by the second
 pub notes_parts : (w : NodeNotes) (a b : List StepKind) → notes_after w (a ++ b) ≡ notes_after (notes_after w a) b
 notes_parts w [] b = refl
 notes_parts w (kind ∷ kinds) b = notes_parts (noted_by kind w) kinds b
@@ -202,7 +203,7 @@ pub run_joined : (a b : List StepKind) (t u v : Table) → WordRun t a u → Wor
 run_joined [] b t u v r s = subst (λ (x : Table). WordRun x b v) r s
 run_joined (kind ∷ kinds) b t u v r s = (r.0, r.1, run_joined kinds b r.0 u v r.2 s)
 
--- while a key is linked, what stood there at its birth stays
+-- if a key is linked before and after a run, what was stored at its birth is the same
 pub linked_as_born : (w : NodeNotes) (slots limit : ℕ) (kinds : List StepKind) (t u : Table) (k : Key) → Shown slots limit t → WordRun t kinds u
     → is_linked (world t) k ≡ true → is_linked (world u) k ≡ true → (place : ℕ) → (notes_after w kinds).born k.slot place ≡ w.born k.slot place
 linked_as_born w slots limit kinds t u k g r linked_t linked_u =

@@ -8,7 +8,7 @@ use lib.ListN.{get_elem?}
 use Rattle.kf_words.specs.TableSteps.{StepKind}
 use Rattle.kf_words.specs.Notes.{note_of, notes_of}
 
--- the notes of a run and of the run that goes on from it
+-- the notes of a run that goes on are its notes followed by those of the added steps
 pub notes_more : (kinds more : List StepKind) → notes_of (kinds ++ more) ≡ notes_of kinds ++ notes_of more
 notes_more [] more = refl
 notes_more (kind ∷ kinds) more = ap (λ l. note_of kind ++ l) (notes_more kinds more) ∙ sym (append_assoc (note_of kind) (notes_of kinds) (notes_of more))
@@ -17,7 +17,7 @@ notes_more (kind ∷ kinds) more = ap (λ l. note_of kind ++ l) (notes_more kind
 pub notes_begin : (first log : List StepKind) → IsPrefix first log → IsPrefix (notes_of first) (notes_of log)
 notes_begin first log p = (notes_of p.0, sym (notes_more first p.0) ∙ ap notes_of p.1)
 
--- the same of one step more
+-- the same for one more step
 pub note_more : (kinds : List StepKind) (kind : StepKind) → notes_of (kinds ++ kind ∷ []) ≡ notes_of kinds ++ note_of kind
 note_more kinds kind = notes_more kinds (kind ∷ []) ∙ ap (λ l. notes_of kinds ++ l) (append-nil (note_of kind))
 
@@ -32,7 +32,7 @@ pub nothing_more : {A : Type 0} (xs ys : List A) → xs ++ ys ≡ xs → ys ≡ 
 nothing_more [] ys e = e
 nothing_more (x ∷ xs) ys e = nothing_more xs ys (ap tail_of e)
 
--- the first of a list stays so if one more is put behind
+-- if a list has an item, adding one at the end leaves the first item as it was
 pub first_stays : {A : Type 0} (l : List A) (x y : A) → get_elem? (l ++ x ∷ []) 0 ≡ some y → (k : ℕ) (z : A) → get_elem? l k ≡ some z → get_elem? l 0 ≡ some y
 first_stays [] x y e k z there = absurd (some-ne-none z (sym there))
 first_stays (w ∷ ws) x y e k z there = e
@@ -42,7 +42,7 @@ put [] k a b e = absurd (some-ne-none a (sym e))
 put (x ∷ xs) zero a b e = refl
 put (x ∷ xs) (suc k) a b e = put xs k a b e
 
--- a word that is put in its place
+-- writing a word to its own place changes nothing
 pub same_word : (words : List ℕ) (i : ℕ) → set words i (slice_index words i) ≡ words
 same_word [] i = refl
 same_word (w ∷ ws) zero = refl

@@ -1,4 +1,5 @@
--- Steps of one list from one table lead to one table: a step is fixed by its kind and by what it finds.
+-- The same list of steps leads from the same table to the same table: a step is fixed by its kind and by what
+-- it finds.
 use Rattle.std.proofs.Common.{◌≡◌, ℕ, suc, ◌+◌, ◌<◌, [], ◌∷◌, ◌++◌, length, set, sym, ap, ◌∙◌, subst}
 use Rattle.std.specs.Prelude.{slice_get, slice_index}
 use Rattle.std.proofs.lemmas.Option.{same_Some}
@@ -85,7 +86,7 @@ module _ (t u v : Table) where
       ∙ ap (λ (k : Key). let x : Table = record { words = t.words; homes = t.homes; views = set t.views (suc j) (seat.Caller (after_share q.0)) ++ seat.Caller (new_hold k) ∷ [] } in x) key
       ∙ sym q.5
 
--- the marks of a slot are one
+-- a slot has only one pair of marks
 one_marks : (slot : ℕ) (m m' : MasterView) (x y : NodeFlags) → IsUndoomed slot x m → IsUndoomed slot y m' → m ≡ m' → x ≡ y
 one_marks slot m m' x y a b is =
     let state : SlotState = a.0.0 in

@@ -1,4 +1,5 @@
--- One step of the table: the rule holds after it and the worlds are led, by what the table asks of the one view.
+-- One step of the table: what is to be shown of it, and that the rule holds after it if the table allows it
+-- for the one view that changes.
 use Rattle.std.proofs.Common.{◌≡◌, ℕ, zero, suc, ◌<◌, List, [], ◌∷◌, map, length, set, refl, sym, ap, ◌∙◌, subst}
 use Rattle.std.specs.Prelude.{slice_get, slice_index, Some, None}
 use Rattle.std.proofs.lemmas.Option.{same_Some}
@@ -15,7 +16,7 @@ use Rattle.kf_words.specs.Steps.{Seated, caller_of}
 use Rattle.kf_words.specs.TableSteps.{Table, StepKind, master_in, callers_in, world}
 use Rattle.kf_words.proofs.Led.{Led}
 
--- the rule holds after the step, and the worlds are led
+-- the rule holds after the step, and the world after it follows from the world before it as `Led` says
 abbrev pub Goes : StepKind → ℕ → ℕ → Table → Table → Type 0
 Goes kind slots limit t t' = Shown slots limit t' × Led kind (world t) (world t')
 
@@ -33,7 +34,7 @@ pub callers_back : (cs : List CallerView) → map caller_of (map seat.Caller cs)
 callers_back [] = refl
 callers_back (c ∷ cs) = ap (λ (l : List CallerView). c ∷ l) (callers_back cs)
 
--- the world of a table, by the views that the rule names
+-- the world of a table is the one that the views named by the rule describe
 pub world_is : (t : Table) (m : MasterView) (cs : List CallerView) → t.views ≡ seats m cs → world t ≡ bare_world m cs
 world_is t m cs views = ap (λ (l : List View). bare_world (master_in l) (callers_in l)) views ∙ ap (bare_world m) (callers_back cs)
 
@@ -50,7 +51,7 @@ same_shown slots limit s t words views h = record {
   shows = subst (λ (l : List ℕ). Shows l h.master h.callers) (sym words) h.shows;
 }
 
--- what the table asks of each kind of step, for the one view that it says
+-- a step keeps the rule if the table allows it for the view of the seat that makes it
 pub by_play : (slots limit place word : ℕ) (f : ℕ → ℕ) (t t' : Table) (before after : View) (told : ℕ → Seated → Type 0)
     → Allows (Shown slots limit) (length t.homes) place (before, []) word f told
     → Shown slots limit t → get_elem? t.views place ≡ some before → slice_index t.words word < 18446744073709551616

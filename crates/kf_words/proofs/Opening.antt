@@ -26,7 +26,7 @@ replicated zero i x y e = absurd (none-some y e)
 replicated (suc n) zero x y e = same_Some x y e
 replicated (suc n) (suc i) x y e = replicated n i x y e
 
--- a line further
+-- the same place in the next line
 abbrev past_line : ℕ → ℕ
 past_line i = suc (suc (suc (suc (suc (suc (suc (suc i)))))))
 
@@ -87,7 +87,7 @@ module _ (slots limit start : ℕ) (some_slot : 1 ≤ slots) (few : limit ≤ 65
   all_words : length words ≡ slots * line_words
   all_words = length-words slots start
 
-  -- the root's slot, and any other
+  -- the state of the root's slot, and of any other slot
   root_here : (state : SlotState) → slice_get m.slots 0 ≡ Some state → root start ≡ state
   root_here state its =
       let long = length-replicate slots (unborn start) in

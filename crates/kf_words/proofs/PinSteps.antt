@@ -1,4 +1,4 @@
--- One hold more of any slot keeps the rule, if the slot's hold word has the bit of a linked node.
+-- One more hold of any slot keeps the rule, if the slot's hold word has the bit LINKED.
 use Rattle.std.proofs.Common.{◌≡◌, ◌≢◌, ℕ, zero, suc, ◌+◌, ◌/◌, ◌%◌, ◌^◌, ◌<◌, ◌≤◌, true, false, List, length, set, refl, sym, ap, ◌∙◌, arith}
 use Rattle.std.specs.Prelude.{slice_get, Some, None, is_some}
 use Rattle.std.proofs.lemmas.List.{get_or_past}
@@ -27,7 +27,7 @@ module _ (words : List ℕ) (m : MasterView) (cs : List CallerView) (shows : Sho
   abbrev word : ℕ
   word = hold_word words s
 
-  -- a word beyond the table is read as 0, which has no bit
+  -- a slot whose word has LINKED is in the table, since a word beyond the table is read as 0
   pub near : s < length m.slots
   near = below_if s (length m.slots) (λ beyond.
       let wide = shows.wide in
@@ -55,7 +55,7 @@ module _ (words : List ℕ) (m : MasterView) (cs : List CallerView) (shows : Sho
   pub linked_last : IsLast (bare_world m cs) s (word / one_generation)
   linked_last = (state, there, sym generation)
 
-  -- the node of the key that the word says is linked
+  -- the key that the hold word names is linked
   pub linked_key : is_linked (bare_world m cs) (key_in s word) ≡ true
   linked_key = ap is_some (ap (λ o. marks_in o (word / one_generation)) there ∙ ap (λ (g : ℕ). marks_in (Some state) g) generation ∙ shown state.generation state.marks) ∙ node
 
@@ -63,7 +63,7 @@ module _ (words : List ℕ) (m : MasterView) (cs : List CallerView) (shows : Sho
   linked_taken free =
       let x : true ≡ false = sym node ∙ (free_shows m.limit word state count shows.few (shows.holds s state there) free).1 in cc
 
--- one hold more of any slot in which a node is linked
+-- one more hold is counted of any slot in which a node is linked
 pub count_at_owes : (words : List ℕ) (m : MasterView) (cs : List CallerView) (j : ℕ) (c : CallerView) → Shows words m cs → get_elem? cs j ≡ some c → c.phase ≢ Spent
     → is_waiting c.phase ≡ true → c.undo_due ≡ false → c.pinning ≡ None → (s : ℕ) → MayPinAt m.limit (hold_word words s) → hold_word words s < 18446744073709551616
     → Shows (set words (hold_index s) ((hold_word words s + 1) % 2 ^ 64)) m (set cs j (after_count_at s (hold_word words s) c))

@@ -1,4 +1,5 @@
--- A caller's exchange on the hold word of any slot, and the split that follows it, are the next steps of the one run.
+-- A caller's exchange on the hold word of any slot, and the split that follows it, are the next steps of the
+-- one run.
 use Rattle.std.proofs.Common.{◌≡◌, ◌≢◌, ℕ, suc, ◌+◌, ◌%◌, ◌<◌, Bool, true, eqb, List, [], ◌∷◌, ◌++◌, set, if◌then◌else◌, refl, sym, ap, ◌∙◌, subst, arith, eq-eqb, ne_eqb, eqb-true}
 use Rattle.std.specs.Prelude.{slice_index, Option, Some, None}
 use Rattle.std.proofs.lemmas.Option.{same_Some}
@@ -38,7 +39,7 @@ module _ (o : Opening) (homes id : ℕ) (me : Sighted) (is : plain me ≡ (seat.
   abbrev homeless : List (ℕ × Unit {0})
   homeless = me.1
 
-  -- the step, by the slot of its word
+  -- the steps on the hold word of a slot, which is given
   module _ (slot i : ℕ) (back : slot_of i ≡ slot) (its : hold_index slot ≡ i) where
     on : i ≡ hold_index (slot_of i)
     on = sym its ∙ ap hold_index (sym back)
@@ -113,7 +114,7 @@ module _ (o : Opening) (homes id : ℕ) (me : Sighted) (is : plain me ≡ (seat.
           (on, (ap (λ (v : View). let x : Seated = (v, me.1) in x) (r.1 ∙ ap seat.Caller (sym told)), ((λ e. absurd (miss e)), (λ _. of_word sees_holds_at _ _ r.3)))),
         ))
 
-  -- the hold of any key that the caller counted gets its seat
+  -- the hold that the caller counted, of any key, gets its seat
   pub hand_splits : (key : Key) → IsAtRest my → my.pinning ≡ Some key → Splits (Kept o) id me.0 (after_sharing me.0) (handed_on me.0)
   hand_splits key rests pinned t h at =
       let e : Table = erased t in
@@ -131,7 +132,7 @@ module _ (o : Opening) (homes id : ℕ) (me : Sighted) (is : plain me ≡ (seat.
             ∙ ap (λ (x : Option Key). let y : Table = record { words = t.words; homes = t.homes; views = set e.views (suc p.0) (seat.Caller (after_share my)) ++ seat.Caller (hold_on x) ∷ [] } in y) pinned,
       )
 
--- what an exchange says of its seat, if it found the word that it expected and if it did not
+-- the caller's view after an exchange that found the word that it expected, and after one that did not
 module _ (slot old found : ℕ) (me me' : Sighted) (is : plain me ≡ (seat.Caller (caller_of me.0.view), [])) (told : plain me' ≡ (seat.Caller (after_exchange_at slot old found (caller_of me.0.view)), (plain me).1)) where
   view_is : caller_of me'.0.view ≡ after_exchange_at slot old found (caller_of me.0.view)
   view_is = ap (λ (x : Seated). caller_of x.0) told
@@ -146,7 +147,7 @@ module _ (slot old found : ℕ) (me me' : Sighted) (is : plain me ≡ (seat.Call
   pub miss_view : found ≢ old → caller_of me'.0.view ≡ after_miss found (caller_of me.0.view)
   miss_view miss = view_is ∙ ap (λ (b : Bool). if b then after_count_at slot found (caller_of me.0.view) else after_miss found (caller_of me.0.view)) (ne_eqb found old miss)
 
-  -- the key that it counted one hold more of
+  -- the key of which the caller counted one more hold
   pub hit_key : (key : Key) → slot ≡ key.slot → IsOf key.generation old → found ≡ old → (caller_of me'.0.view).pinning ≡ Some key
   hit_key key its of_key hit = ap (λ (v : CallerView). v.pinning) (hit_view hit) ∙ ap (λ (k : Key). Some k) (same_key (key_in slot old) key its of_key.1)
 

@@ -1,5 +1,5 @@
--- An event of one world is an event of a world that has more callers, if those have just come, and that
--- gives the callers other numbers.
+-- An event of one world is also an event of a world that has more callers, and numbers its callers
+-- differently, if the additional callers have just come.
 use Rattle.std.proofs.Common.{◌≡◌, ◌≢◌, ◌⊎◌, inl, inr, ℕ, zero, suc, ◌+◌, arith, Bool, true, false, eqb, eq-eqb, List, [], ◌∷◌, ◌++◌, length, map, set, get_or, if◌then◌else◌, refl, sym, ap, ◌∙◌, subst, ⊎_elim}
 use Rattle.std.specs.Prelude.{slice_get, count_by, Some, None, ◌&&◌, not}
 use Rattle.std.proofs.lemmas.Bool.{eqb-true}
@@ -24,7 +24,7 @@ use Rattle.kf_core.proofs.Lists.{slice_get-set_same}
 use Rattle.kf_core.proofs.Tallies.{Passing, count_set, count_push, count_none, count_some, same_bool}
 use Rattle.kf_words.specs.Runs.{newcomer}
 
--- a test that one caller passes, and only callers equal to it
+-- a test that a given caller passes, and only callers equal to it
 
 abbrev phases : List Phase
 phases = Still ∷ Turned ∷ Running ∷ Broken ∷ Restored ∷ Drained ∷ Parted ∷ Hiding ∷ Hidden ∷ Spent ∷ []
@@ -78,7 +78,7 @@ found_in xs ys same i x there = elim (count_by (is_it x) ys) as (λ n. count_by 
       (r.place, r.there ∙ ap Some (only_it x r.item r.passes)))
 ] refl
 
--- callers of two lists, one behind the other
+-- the items of two lists, one behind the other
 module _ {X : Type 0} where
   pub count_both : (p : X → Bool) (xs ys : List X) → count_by p (xs ++ ys) ≡ count_by p xs + count_by p ys
   count_both p xs ys = sum_by-append (λ (x : X). tally (p x)) xs ys
@@ -96,7 +96,7 @@ module _ {X : Type 0} where
   in_first (y ∷ xs) ys zero x e = e
   in_first (y ∷ xs) ys (suc i) x e = in_first xs ys i x e
 
--- who has just come to one of these keys
+-- a caller that has just come belongs to one of these keys
 pub in_new : (keys : List Key) (i : ℕ) (x : Caller) → slice_get (map newcomer keys) i ≡ Some x → (j : ℕ) × (key : Key) × (slice_get keys j ≡ Some key) × (newcomer key ≡ x)
 in_new [] i x e = absurd (none-some x e)
 in_new (k ∷ keys) zero x e = (0, k, refl, same_Some (newcomer k) x e)
@@ -107,11 +107,12 @@ new_in [] i key e = absurd (none-some key e)
 new_in (k ∷ keys) zero key e = ap (λ (x : Key). Some (newcomer x)) (same_Some k key e)
 new_in (k ∷ keys) (suc i) key e = new_in keys i key e
 
--- a list of callers has as many of each kind as a world and the callers that have just come to these keys
+-- the list has as many callers of each kind as the world and the callers that have just come to these keys
+-- together
 abbrev pub AreAsMany : List Caller → BareWorld → List Key → Type 0
 AreAsMany callers w keys = (p : Caller → Bool) → count_by p callers ≡ count_by p w.callers + count_by p (map newcomer keys)
 
--- the world with these callers
+-- the world, but with these callers
 abbrev pub with_callers : BareWorld → List Caller → BareWorld
 with_callers w callers = record { slots = w.slots; callers = callers }
 
@@ -134,7 +135,7 @@ module _ (w : BareWorld) (keys : List Key) (l : List Caller) (same : AreAsMany l
       (λ (new : (j : ℕ) × (slice_get (map newcomer keys) j ≡ Some x)). inr (in_new keys new.0 x new.1))
       (in_either w.callers (map newcomer keys) f.0 x f.1)
 
-  -- who has just come is Still
+  -- a caller that has just come is Still, so a caller in any other phase is one of the world
   unless : (f : Phase → Bool) → f Still ≡ false → (c : ℕ) (key : Key) (phase : Phase) → IsCaller model c key phase → f phase ≡ true → (k : ℕ) × IsCaller w k key phase
   unless f off c key phase h on = ⊎_elim
       (λ (old : (k : ℕ) × IsCaller w k key phase). old)
@@ -173,8 +174,8 @@ module _ (w : BareWorld) (keys : List Key) (l : List Caller) (same : AreAsMany l
       absurd (apart new.0 new.1 new.2 (ap (λ (y : Caller). y.key.slot) new.3 ∙ its)))
       (theirs c (record { key = key; phase = phase }) h)
 
-  -- some event leads to a world that has as many callers of each kind as this, and the same who have just
-  -- come
+  -- some event leads to a world that has as many callers of each kind as this one, and the same callers that
+  -- have just come
   abbrev pub Carries : BareWorld → Type 0
   Carries w' = (e : Event) × (l' : List Caller) × BareStep model e (with_callers w' l') × AreAsMany l' w' keys
 

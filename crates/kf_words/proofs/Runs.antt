@@ -38,7 +38,7 @@ word_run : (slots limit : ℕ) (kinds : List StepKind) (t u : Table) → Shown s
 word_run slots limit [] t u h r = subst (λ (x : Table). Shown slots limit x) (sym r) h
 word_run slots limit (kind ∷ kinds) t u h r = word_run slots limit kinds r.0 u (word_step slots limit t kind r.0 h r.1).0 r.2
 
--- what each event and each step only of the Master keeps, a run keeps
+-- what is kept by each event, and by each change that is not one event, is kept by a run
 pub run_holds : (P : BareWorld → Type 0) → ((w : BareWorld) (e : Event) (w' : BareWorld) → BareStep w e w' → P w → P w') → ((kind : StepKind) (w w' : BareWorld) → Alone kind w w' → P w → P w')
     → (slots limit : ℕ) (kinds : List StepKind) (t u : Table) → Shown slots limit t → WordRun t kinds u → P (world t) → P (world u)
 run_holds P events alone slots limit [] t u h r p = subst (λ (x : Table). P (world x)) (sym r) p
@@ -85,7 +85,7 @@ alone_finished k kind w w' a f = ⊎_elim
     m)
     a
 
--- a slot that has come to a key's generation stays there, and what is lost or finished stays so
+-- a slot that has reached a key's generation never falls below it, and what is lost or finished stays so
 pub come_for_good : (slots limit : ℕ) (kinds : List StepKind) (t u : Table) (k : Key) → Shown slots limit t → WordRun t kinds u → HasCome (world t) k → HasCome (world u) k
 come_for_good slots limit kinds t u k h r = run_holds (λ x. HasCome x k) (λ x e y s p. step_come x e y k s p) (alone_come k) slots limit kinds t u h r
 
@@ -106,7 +106,7 @@ attended_runs : (kinds : List StepKind) (t u : Table) → AttendedRun t kinds u 
 attended_runs [] t u r = r
 attended_runs (kind ∷ kinds) t u r = (r.0, r.2, attended_runs kinds r.0 u r.3)
 
--- and one of events
+-- an attended run is a run of events, too
 pub run_is_run : RunIsRun
 run_is_run slots limit t u kinds h r = (attended_runs kinds t u r, followed_from slots limit kinds t u h r)
 
@@ -163,7 +163,7 @@ enter_live w w' j key s runs =
     let one : now ≡ then_runs = same_Some now then_runs (sym there ∙ ap (λ (x : BareWorld). slice_get x.callers j) (sym s.4) ∙ runs) in
     ap (λ (x : Key). is_live w x) (sym (ap (λ (x : Caller). x.key) one)) ∙ let_in (is_live w s.0) (ap (λ (x : Caller). x.phase) one)
 
--- a try is an Enter of the worlds
+-- a try on the words is an Enter in the world
 pub try_enters : (slots limit : ℕ) (u v : Table) → Shown slots limit u → (j : ℕ) → WordStep u (tries j) v → BareStep (world u) (Enter j) (world v)
 try_enters slots limit u v k j s =
     let c : CallerView = s.0 in
@@ -209,7 +209,7 @@ hidden_keeps_out slots limit t u kinds g r c key phase there hiding =
       λ hidden. (safe_now slots limit u k).none_running c key phase there (ap saw_unused hidden),
     )
 
--- who runs after a step ran before it, or the step is its try, on a live key
+-- a caller that runs after a step ran before it, or the step is its try, on a live key
 started : (kind : StepKind) (w w' : BareWorld) (c : ℕ) (key : Key) → Led kind w w' → IsCaller w' c key Running → IsCaller w c key Running ⊎ ((kind ≡ tries c) × (is_live w key ≡ true))
 started kind w w' c key l runs = ⊎_elim
     (λ (stays : w' ≡ w). inl (subst (λ (x : BareWorld). IsCaller x c key Running) stays runs))

@@ -28,7 +28,7 @@ passed_limit m m' slot s = ap (λ (x : MasterView). x.limit) s.2 ∙ with_loads_
 pub passed_pinning : (m m' : MasterView) (slot : ℕ) → HasPassed m slot m' → m'.pinning ≡ m.pinning
 passed_pinning m m' slot s = ap (λ (x : MasterView). x.pinning) s.2 ∙ with_loads_pinning s.0 m
 
--- a slot is unlinked at the first view if it is at a later one of the search
+-- a slot is unlinked in the first view of a search if and only if it is in a later one
 at_first : (m m' : MasterView) (slot i : ℕ) (b : Bool) → HasPassed m slot m' → is_unlinked m'.slots i ≡ b → is_unlinked m.slots i ≡ b
 at_first m m' slot i b s e = ap (λ (l : List SlotState). is_unlinked l i) (sym (passed_slots m m' slot s)) ∙ e
 
@@ -44,7 +44,7 @@ loads_more m m' m'' slot word unlinked taken is s =
     subst (λ (n : ℕ). HasPassed m n m'') e
     (s.0 ++ load ∷ [], inr (at_first m m' slot slot true s unlinked, s.0, word, taken, refl, s.1), is ∙ ap (λ (x : MasterView). with_load slot word x) s.2 ∙ sym (with_loads_more s.0 load m))
 
--- this many slots that all have nodes
+-- the search passes over this many slots, which all have nodes
 passes_over : (m m' : MasterView) (slot count : ℕ) → ((i : ℕ) → slot ≤ i → i < slot + count → is_unlinked m'.slots i ≡ false) → HasPassed m slot m' → HasPassed m (slot + count) m'
 passes_over m m' slot zero all s = let e : slot ≡ slot + 0 = omega arith in subst (λ (n : ℕ). HasPassed m n m') e s
 passes_over m m' slot (suc count) all s =
@@ -74,7 +74,7 @@ found_pinning m m' slot f = ap (λ (x : MasterView). x.pinning) f.view ∙ with_
 pub ends : (m m' : MasterView) (below : ℕ) → length m.slots ≤ below → HasPassed m below m' → FoundNone m m'
 ends m m' below all s = record { loads = s.0; below = below; passed = s.1; all = all; view = s.2 }
 
--- the same of each search that has come so far
+-- the same for each search that has come this far
 module _ (m : MasterView) (from : ℕ) where
   pub on_begins : SearchesOn m from from None m
   on_begins first s = s
@@ -91,7 +91,7 @@ module _ (m : MasterView) (from : ℕ) where
   pub on_finds : (m' m'' : MasterView) (slot to word : ℕ) → is_unlinked m'.slots slot ≡ true → IsFree word → m'' ≡ with_load slot word m' → SearchesOn m from slot None m' → SearchesOn m from to (Some slot) m''
   on_finds m' m'' slot to word unlinked free is on first s = finds first m' m'' slot word unlinked free is (on first s)
 
-  -- one part of the way after another
+  -- a search of one range of slots, followed by a search of the next
   pub on_then : (m' m'' : MasterView) (at to : ℕ) → SearchesOn m from at None m' → SearchesOn m' at to None m'' → SearchesOn m from to None m''
   on_then m' m'' at to on next first s = next first (on first s)
 
@@ -113,14 +113,14 @@ unlinked_there slots slot e = lacks_there (slice_get slots slot) (and_right (not
 pub unlinked_within : (slots : List SlotState) (slot : ℕ) → is_unlinked slots slot ≡ true → slot < length slots
 unlinked_within slots slot e = let there = unlinked_there slots slot e in slice_get_within slots slot there.0 there.1
 
--- the slot at a bit that is set has a node
+-- a slot whose bit is set has a node
 pub in_bits : (full : List ℕ) (slots : List SlotState) (block bit i word : ℕ) → AreLinked full slots → get_or full block 0 ≡ word → bit_at word bit ≡ 1 → bit < 64 → i ≡ block * 64 + bit → is_unlinked slots i ≡ false
 in_bits full slots block bit i word all is set few e =
     let at : i / 64 ≡ block = omega (arith, few, e) in
     let place : i % 64 ≡ bit = omega (arith, few, e) in
     all i (ap (λ (k : ℕ). bit_at (get_or full k 0) (i % 64)) at ∙ (ap (λ (k : ℕ). bit_at (get_or full block 0) k) place ∙ (ap (λ (x : ℕ). bit_at x bit) is ∙ set)))
 
--- a bit is set if the slot was seen to have a node
+-- the bits stay right if one is set whose slot was seen to have a node
 pub linked_set : (full : List ℕ) (slots : List SlotState) (block place word word' : ℕ) → AreLinked full slots → block < length full → place < 64 → get_or full block 0 ≡ word → ((bit : ℕ) → bit ≢ place → bit_at word' bit ≡ bit_at word bit) → is_unlinked slots (block * 64 + place) ≡ false → AreLinked (slice_set full block word') slots
 linked_set full slots block place word word' old near few is kept here slot marked =
     let now : ((slot / 64) ≡ block) → bit_at word' (slot % 64) ≡ 1 = λ e.
@@ -139,7 +139,7 @@ linked_set full slots block place word word' old near few is kept here slot mark
 pub in_full : (full_groups : List Bool) (slots : List SlotState) (group i : ℕ) → AreFull full_groups slots → group < length full_groups → get_or full_groups group false ≡ true → group ≡ i / 8192 → is_unlinked slots i ≡ false
 in_full full_groups slots group i all near marked e = all i (subst (λ (k : ℕ). slice_get full_groups k ≡ Some true) e (get_there full_groups group false near ∙ ap Some marked))
 
--- a group is marked if each of its slots was seen to have a node
+-- the marks of groups stay right if a group is marked only if each of its slots was seen to have a node
 full_marked : (full_groups : List Bool) (slots : List SlotState) (group : ℕ) (all : Bool) → AreFull full_groups slots → (all ≡ true → (i : ℕ) → group ≡ i / 8192 → is_unlinked slots i ≡ false) → AreFull (slice_set full_groups group all) slots
 full_marked full_groups slots group all old seen slot marked =
     elim (after_write full_groups group (slot / 8192) all true marked) [ inl h ↦ seen h.1 slot h.0 | inr h ↦ old slot h.1 ]
@@ -158,17 +158,17 @@ has_node o state is lacks = not_false (is_some state.marks) (sym (ap lacks_node 
   not_false true e = refl
   not_false false e = absurd (let y : true ≡ false = e in cc)
 
--- a slot that gets a node, or keeps one, takes no node away
+-- if a slot gets a node or keeps one, every slot that had a node still has one
 still_linked : (slots : List SlotState) (i : ℕ) (state : SlotState) (slot : ℕ) → is_some state.marks ≡ true → is_unlinked slots slot ≡ false → is_unlinked (slice_set slots i state) slot ≡ false
 still_linked slots i state slot linked =
     and_keeps (not (slot == 0)) (lacks_node (slice_get slots slot)) (lacks_node (slice_get (slice_set slots i state) slot))
     (λ lacks. lacks_not (slice_get (slice_set slots i state) slot) (λ y is. elim (after_set slots i slot state y is) [ inl h ↦ ap (λ (s : SlotState). is_some s.marks) (sym h) ∙ linked | inr h ↦ has_node (slice_get slots slot) y h lacks ]))
 
--- a change of one slot leaves the others
+-- a change of one slot leaves the others as they were
 other_linked : (slots : List SlotState) (i : ℕ) (state : SlotState) (slot : ℕ) → slot ≢ i → is_unlinked slots slot ≡ false → is_unlinked (slice_set slots i state) slot ≡ false
 other_linked slots i state slot other was = ap (λ (o : Option SlotState). not (slot == 0) && lacks_node o) (slice_get-set_other slots i slot state other) ∙ was
 
--- if a node leaves its slot, the bit is cleared
+-- the bits stay right if a node leaves its slot and the slot's bit is cleared
 linked_left : (full : List ℕ) (slots : List SlotState) (i word word' : ℕ) (state : SlotState) → AreLinked full slots → i / 64 < length full → get_or full (i / 64) 0 ≡ word → bit_at word' (i % 64) ≡ 0 → ((bit : ℕ) → bit_at word' bit ≡ 1 → bit_at word bit ≡ 1) → AreLinked (slice_set full (i / 64) word') (slice_set slots i state)
 linked_left full slots i word word' state old near is cleared no_more slot marked =
     let now : ((slot / 64) ≡ (i / 64)) → bit_at word' (slot % 64) ≡ 1 = λ e.
@@ -183,7 +183,7 @@ linked_left full slots i word word' state old near is cleared no_more slot marke
       | inr n ↦ other_linked slots i state slot n.1 (old slot was)
     ]
 
--- if a node leaves its slot, the mark of its group is taken away
+-- the marks of groups stay right if a node leaves its slot and the mark of the slot's group is taken away
 full_left : (full_groups : List Bool) (slots : List SlotState) (i : ℕ) (state : SlotState) → AreFull full_groups slots → AreFull (slice_set full_groups (i / 8192) false) (slice_set slots i state)
 full_left full_groups slots i state old slot marked =
     elim (after_write full_groups (i / 8192) (slot / 8192) false true marked) [
@@ -258,7 +258,7 @@ marked_left full full_groups slots i word word' state old near is cleared no_mor
       few = omega arith;
     }
 
--- the bits of blocks after a search of one
+-- bits and marks stay right after a search of one block changed the bits
 pub marked_on : (full full' : List ℕ) (full_groups : List Bool) (slots : List SlotState) → AreMarked full full_groups slots → AreLinked full' slots → length full' ≡ length full → AreMarked full' full_groups slots
 marked_on full full' full_groups slots old blocks as_many =
     let covered = old.covered in
@@ -266,7 +266,7 @@ marked_on full full' full_groups slots old blocks as_many =
     let few = old.few in
     record { blocks = blocks; groups = old.groups; covered = omega arith; grouped = omega arith; few = omega arith }
 
--- a group is marked if each slot of its blocks was seen to have a node
+-- bits and marks stay right if a group is marked only if each of its slots was seen to have a node
 pub marked_group : (full : List ℕ) (full_groups : List Bool) (slots : List SlotState) (group : ℕ) (all : Bool) → AreMarked full full_groups slots → (all ≡ true → (i : ℕ) → group ≡ i / 8192 → is_unlinked slots i ≡ false) → AreMarked full (slice_set full_groups group all) slots
 marked_group full full_groups slots group all old seen =
     let many = length-set full_groups group all in

@@ -17,7 +17,7 @@ map_at f [] i b e = absurd (some-ne-none b (sym e))
 map_at f (x ∷ xs) zero b e = (x, refl, some-injective (f x) b e)
 map_at f (x ∷ xs) (suc i) b e = map_at f xs i b e
 
--- the seat of a caller
+-- the seat of a caller is not the first, and its view is one of the callers' views
 pub caller_seat : (m : MasterView) (cs : List CallerView) (id : ℕ) (c : CallerView) → get_elem? (seats m cs) id ≡ some (seat.Caller c) → (j : ℕ) × (id ≡ suc j) × (get_elem? cs j ≡ some c)
 caller_seat m cs zero c e = absurd (let is : seat.Master m ≡ seat.Caller c = some-injective _ _ e in cc)
 caller_seat m cs (suc j) c e =
@@ -26,7 +26,7 @@ caller_seat m cs (suc j) c e =
     let is : x.0 ≡ c = cc in
     (j, refl, subst (λ (y : CallerView). get_elem? cs j ≡ some y) is x.1)
 
--- the seat of the Master
+-- the seat of the Master is the first
 pub master_seat : (m n : MasterView) (cs : List CallerView) (id : ℕ) → get_elem? (seats m cs) id ≡ some (seat.Master n) → (id ≡ 0) × (m ≡ n)
 master_seat m n cs zero e = (refl, let is : seat.Master m ≡ seat.Master n = some-injective _ _ e in cc)
 master_seat m n cs (suc j) e =
@@ -39,7 +39,7 @@ seats-set m cs j c = ap (λ l. seat.Master m ∷ l) (sym (map-set seat.Caller cs
 pub seats-push : (m : MasterView) (cs : List CallerView) (c : CallerView) → seats m cs ++ seat.Caller c ∷ [] ≡ seats m (cs ++ c ∷ [])
 seats-push m cs c = ap (λ l. seat.Master m ∷ l) (sym (map-append seat.Caller cs (c ∷ [])))
 
--- the caller of a number
+-- caller j of the world is the one that view j describes
 pub caller_at : (cs : List CallerView) (j : ℕ) (c : CallerView) → get_elem? cs j ≡ some c → slice_get (map caller cs) j ≡ Some (caller c)
 caller_at [] j c e = absurd (some-ne-none c (sym e))
 caller_at (x ∷ xs) zero c e = ap (λ (y : CallerView). Some (caller y)) (some-injective x c e)
@@ -50,7 +50,7 @@ at_caller [] j x e = absurd (let y : None ≡ Some x = e in cc)
 at_caller (c ∷ cs) zero x e = (c, refl, let y : Some (caller c) ≡ Some x = e in cc)
 at_caller (c ∷ cs) (suc j) x e = at_caller cs j x e
 
--- one view changes: the count changes by that caller
+-- if one view changes, the count changes by that caller
 pub tally-set : (p : CallerView → Bool) (cs : List CallerView) (j : ℕ) (c c' : CallerView) → get_elem? cs j ≡ some c → tally p (set cs j c') + bit (p c) 1 ≡ tally p cs + bit (p c') 1
 tally-set p [] j c c' e = absurd (some-ne-none c (sym e))
 tally-set p (x ∷ xs) zero c c' e = let is : bit (p x) 1 ≡ bit (p c) 1 = ap (λ (y : CallerView). bit (p y) 1) (some-injective x c e) in omega arith
@@ -65,7 +65,7 @@ tally-one p [] j c e h = absurd (some-ne-none c (sym e))
 tally-one p (x ∷ xs) zero c e h = let is : bit (p x) 1 ≡ 1 = ap (λ (b : Bool). bit b 1) (ap p (some-injective x c e) ∙ h) in omega arith
 tally-one p (x ∷ xs) (suc j) c e h = let r = tally-one p xs j c e h in omega arith
 
--- if the count is not 0, somebody passes
+-- if the count is not 0, some caller passes the test
 pub tally-some : (p : CallerView → Bool) (cs : List CallerView) → 1 ≤ tally p cs → (j : ℕ) × (c : CallerView) × (get_elem? cs j ≡ some c) × (p c ≡ true)
 tally-some p [] h = absurd (omega arith)
 tally-some p (x ∷ xs) h = elim (p x) as (λ b. p x ≡ b → (j : ℕ) × (c : CallerView) × (get_elem? (x ∷ xs) j ≡ some c) × (p c ≡ true)) [
@@ -74,7 +74,7 @@ tally-some p (x ∷ xs) h = elim (p x) as (λ b. p x ≡ b → (j : ℕ) × (c :
       let r = tally-some p xs (omega arith) in (suc r.0, r.1, r.2, r.3))
 ] refl
 
--- who passes p passes q
+-- if every caller that passes p passes q, the count for p is at most that for q
 pub tally≤ : (p q : CallerView → Bool) (cs : List CallerView) → ((j : ℕ) (c : CallerView) → get_elem? cs j ≡ some c → p c ≡ true → q c ≡ true) → tally p cs ≤ tally q cs
 tally≤ p q [] h = omega arith
 tally≤ p q (x ∷ xs) h = let r = tally≤ p q xs (λ j c e. h (suc j) c e) in let one = bit-le (p x) (q x) (h zero x refl) in omega arith

@@ -1,4 +1,4 @@
--- A hold that a caller counted, of its key or another, goes to a new seat, and the rule stays.
+-- A hold that a caller counted, for its own key or another one, goes to a new seat, and the rule is kept.
 use Rattle.std.proofs.Common.{◌&&◌, ◌≡◌, ◌≢◌, ℕ, zero, suc, ◌+◌, Bool, true, false, eqb, List, [], ◌∷◌, ◌++◌, length, map, set, refl, sym, ap, ◌∙◌, subst, ⊎_elim, arith}
 use Rattle.std.specs.Prelude.{slice_get, Option, Some}
 use Rattle.std.proofs.lemmas.Option.{none-some}
@@ -29,7 +29,7 @@ module _ (m : MasterView) (cs : List CallerView) (j : ℕ) (c : CallerView) (at 
   abbrev pub new : CallerView
   new = new_hold key
 
-  -- all callers after it
+  -- all callers after the step
   abbrev pub shared : List CallerView
   shared = set cs j (after_share c) ++ new_hold key ∷ []
 
@@ -41,7 +41,7 @@ module _ (m : MasterView) (cs : List CallerView) (j : ℕ) (c : CallerView) (at 
   put_same (y ∷ ys) zero x e = let is : Some y ≡ Some x = e in let same : x ≡ y = cc in ap (λ z. z ∷ ys) same
   put_same (y ∷ ys) (suc i) x e = ap (λ l. y ∷ l) (put_same ys i x e)
 
-  -- the world gets one caller more
+  -- the world gets one more caller
   pub one_more_caller : map caller shared ≡ map caller cs ++ caller new ∷ []
   one_more_caller = map-append caller (set cs j (after_share c)) (new ∷ [])
       ∙ ap (λ (l : List Caller). l ++ caller new ∷ []) (map-set caller cs j (after_share c) ∙ put_same (map caller cs) j (caller c) there)
@@ -49,7 +49,7 @@ module _ (m : MasterView) (cs : List CallerView) (j : ℕ) (c : CallerView) (at 
   pub shared_world : bare_world m shared ≡ core.with_caller (bare_world m cs) key
   shared_world = ap (λ (l : List Caller). let w : BareWorld = record { slots = m.slots; callers = l } in w) one_more_caller
 
-  -- it is a Pin of a key that is linked, or held
+  -- the step is a Pin if the key is linked or held
   pub is_pinned : core.MayPin (bare_world m cs) key → core.BareStep (bare_world m cs) (Pin (length (bare_world m cs).callers) key) (bare_world m shared)
   is_pinned may = (refl, may, shared_world)
 
@@ -62,7 +62,7 @@ module _ (m : MasterView) (cs : List CallerView) (j : ℕ) (c : CallerView) (at 
     on true = refl
     on false = refl
 
-    -- who is counted except what the caller counted is so still, and the new seat besides
+    -- if the step does not change whether the caller passes a test, the count changes only by the new seat
     counted : (p : CallerView → Bool) → p (after_share c) ≡ p c → tally p shared ≡ tally p cs + bit (p new) 1
     counted p same =
         let a = tally-set p cs j c (after_share c) at in

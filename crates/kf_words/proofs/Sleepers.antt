@@ -1,4 +1,4 @@
--- A step on the count of a slot's sleepers keeps the rule, which does not read it, and every view.
+-- A step on the count of a slot's sleepers keeps every view, and the rule, which does not read that count.
 use Rattle.std.proofs.Common.{◌≡◌, ℕ, zero, suc, ◌+◌, List, [], ◌∷◌, set, get_or, refl, sym, ap, ◌∙◌, subst, arith, length-set, get_or-set_other}
 use mathlib.Core.Option.{some, some-injective}
 use lib.ListN.{get_elem?}
@@ -11,7 +11,7 @@ use Rattle.kf_words.specs.Rule.{ShowsMarks, ShowsHolds, StillHolds, users, hider
 use Rattle.kf_words.specs.Steps.{Seated, caller_of, unmoved, CallerBecomes}
 use Rattle.kf_words.proofs.CallerAllowed.{no_step, allows}
 
--- a view put in its place
+-- writing a view to its own place changes nothing
 pub put_same : (cs : List CallerView) (j : ℕ) (c : CallerView) → get_elem? cs j ≡ some c → set cs j c ≡ cs
 put_same [] j c e = refl
 put_same (x ∷ xs) zero c e = ap (λ y. y ∷ xs) (sym (some-injective x c e))
@@ -41,7 +41,7 @@ module _ (words : List ℕ) (m : MasterView) (cs : List CallerView) (shows : Sho
     safe = shows.safe;
   }
 
--- such a step, as the table asks for it, whatever it makes of the count
+-- the table allows such a step, whatever it does to the count
 pub sleep_allowed : (count limit homes id : ℕ) (me : Seated) (i : ℕ) (f : ℕ → ℕ) → me ≡ (seat.Caller (caller_of me.0), []) → sleepers_index (caller_of me.0).key.slot ≡ i
     → Allows (Shown count limit) homes id me i f (CallerBecomes unmoved no_step me)
 sleep_allowed count limit homes id me i f is its =

@@ -1,4 +1,4 @@
--- A caller reports to the Master what it has seen, and hears what the Master has.
+-- A caller reports to the Master what it has seen, and takes over what the Master has seen.
 use Rattle.std.proofs.Common.{◌≡◌, ◌≢◌, ℕ, zero, suc, List, [], ◌∷◌, ◌++◌, refl, sym, ap, ◌∙◌, subst}
 use mathlib.Core.Option.{some}
 use lib.ListN.{get_elem?}
@@ -20,7 +20,7 @@ module _ (o : Opening) (id : ℕ) (me : Sighted) (is : plain me ≡ (seat.Caller
   abbrev my : CallerView
   my = caller_of me.0.view
 
-  -- a new seat has seen what the caller has
+  -- a new seat has seen what the caller has seen
   pub report_splits : my.phase ≢ Spent → Splits (Kept o) id me.0 me.0 (reported me.0)
   report_splits holding t h at =
       let e : Table = erased t in
@@ -31,7 +31,7 @@ module _ (o : Opening) (id : ℕ) (me : Sighted) (is : plain me ≡ (seat.Caller
       split_kept o t h id me.0 at me.0 (reported me.0) (reports p.0) refl refl refl refl refl
       (my, holding, there, ap (λ (l : List View). let x : Table = record { words = t.words; homes = t.homes; views = l ++ (reported me.0).view ∷ [] } in x) (set_again e.views id me.0.view own))
 
-  -- the caller has seen just what the other seat has
+  -- the caller has now seen exactly what the other seat has seen
   pub take_joins : (other : ℕ) (w : Sight) → Joins (Kept o) id me.0 other w (takes_over me.0 w) w
   take_joins other w t h at apart there =
       let e : Table = erased t in

@@ -105,7 +105,7 @@ no_reference m cs slot state empty c phase is = no (has_reference phase) (λ cou
     no true h = absurd (h refl)
     no false h = refl
 
--- if a word is not used, nobody has a reference to the last key of its slot
+-- if an active word is unused, nobody has a reference to the last key of its slot
 pub unused_is_unused : (slots limit : ℕ) (t : State (Unit {0}) View) (shown : Shown slots limit t) (slot : ℕ) (state : SlotState) → slice_get shown.master.slots slot ≡ Some state → is_unused (active_word t.words slot) ≡ true → NoReference (bare_world shown.master shown.callers) (last_key slot state)
 unused_is_unused slots limit t shown slot state its hit =
     let cs : List CallerView = shown.callers in

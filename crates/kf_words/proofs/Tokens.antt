@@ -1,4 +1,5 @@
--- The seat in the Master's token is the token as contracts see it: what a step asks or says of one, it does of both.
+-- In contracts the Master's token is the seat inside it: what a step requires or says of one of them, it
+-- requires or says of both.
 use Rattle.std.proofs.Common.{◌≡◌, ℕ, [], sym, ap, ◌∙◌, subst}
 use mathlib.Core.Option.{none}
 use Rattle.atomic_table.specs.Table.{State, Step, step, Allows, Splits, Joins}

@@ -33,7 +33,7 @@ use Rattle.kf_words.proofs.Renumbered.{count_both, found_in, in_new, new_in}
 abbrev pub coming : (Caller → Bool) → List CallerView → ℕ
 coming p cs = count_by p (map newcomer (keys_under_way cs))
 
--- and how many of one caller's
+-- how many of one caller's holds under way pass a test
 abbrev pub coming_of : (Caller → Bool) → Option Key → ℕ
 coming_of p o = count_by p (map newcomer (keys_in o))
 
@@ -72,43 +72,43 @@ counted_first x xs None i key its e rest = let r = rest i e in (suc r.0, r.1, r.
 counted_first x xs (Some k) zero key its e rest = (0, x, refl, its ∙ e)
 counted_first x xs (Some k) (suc i) key its e rest = let r = rest i e in (suc r.0, r.1, r.2, r.3)
 
--- a hold under way was counted by a caller
+-- each hold under way was counted by a caller
 counted_by : (cs : List CallerView) (i : ℕ) (key : Key) → slice_get (keys_under_way cs) i ≡ Some key → CountedBy cs key
 counted_by [] i key e = absurd (none-some key e)
 counted_by (x ∷ xs) i key e = counted_first x xs x.pinning i key refl e (λ k f. counted_by xs k key f)
 
--- the callers of a table, by the views that the rule names
+-- the callers of a table are those that the rule names
 callers_are : (l : List View) (m : MasterView) (cs : List CallerView) → l ≡ seats m cs → callers_in l ≡ cs
 callers_are l m cs views = ap callers_in views ∙ callers_back cs
 
--- how many holds under way pass a test in a table
+-- how many of a table's holds under way pass a test
 abbrev pub coming_in : (Caller → Bool) → Table → ℕ
 coming_in p t = coming p (callers_in t.views)
 
 coming_is : (p : Caller → Bool) (t : Table) (m : MasterView) (cs : List CallerView) → t.views ≡ seats m cs → coming_in p t ≡ coming p cs
 coming_is p t m cs views = ap (coming p) (callers_are t.views m cs views)
 
--- the holds under way have the last keys of their slots
+-- a hold under way has the last key of its slot
 pub coming_last : (slots limit : ℕ) (t : Table) → Shown slots limit t → (i : ℕ) (key : Key) → slice_get (keys_under_way (callers_in t.views)) i ≡ Some key → IsLast (world t) key.slot key.generation
 coming_last slots limit t h i key e =
     let r = counted_by h.callers i key (subst (λ (l : List CallerView). slice_get (keys_under_way l) i ≡ Some key) (callers_are t.views h.master h.callers h.views) e) in
     subst (λ (w : BareWorld). IsLast w key.slot key.generation) (sym (world_is t h.master h.callers h.views)) (h.shows.pinned r.0 r.1 key r.2 r.3)
 
--- no hold was counted, and none got its seat
+-- no hold was counted, and none got its seat: for each test, as many holds under way pass it as before
 abbrev pub NoneComes : Table → Table → Type 0
 NoneComes t t' = (p : Caller → Bool) → coming_in p t' ≡ coming_in p t
 
--- a hold of this key was counted, which is linked or held
+-- one hold was counted, of a key that is linked or held
 abbrev pub OneComes : Table → Table → Type 0
 OneComes t t' = (key : Key) × MayPin (world t) key × (world t' ≡ world t)
     × ((p : Caller → Bool) → coming_in p t' ≡ coming_in p t + coming_of p (Some key))
 
--- the hold of this key got its seat
+-- the hold of one key got its seat
 abbrev pub OneSits : Table → Table → Type 0
 OneSits t t' = (key : Key) × (world t' ≡ with_caller (world t) key)
     × ((p : Caller → Bool) → coming_in p t' + coming_of p (Some key) ≡ coming_in p t)
 
--- still under way if the step changes none
+-- what is under way stays under way if no hold was counted and none got its seat
 pub stays_coming : (t t' : Table) → NoneComes t t' → (i : ℕ) (key : Key) → slice_get (keys_under_way (callers_in t.views)) i ≡ Some key → (j : ℕ) × (slice_get (keys_under_way (callers_in t'.views)) j ≡ Some key)
 stays_coming t t' none i key e =
     let f = found_in (newcomers t) (newcomers t') (λ p. sym (none p)) i (newcomer key) (new_in (keys_under_way (callers_in t.views)) i key e) in
@@ -116,13 +116,13 @@ stays_coming t t' none i key e =
     (n.0, n.2 ∙ ap (λ (x : Caller). Some x.key) n.3)
 
 module _ (slots limit : ℕ) (t t' : Table) (h : Shown slots limit t) where
-  -- the Master's step changes its own view only
+  -- a step that changes only the Master's view changes no hold under way
   master_keeps : (word n : ℕ) (m' : MasterView) → t' ≡ stepped t word n 0 [] (seat.Master m') keeps → NoneComes t t'
   master_keeps word n m' becomes p =
       let views : t'.views ≡ seats m' h.callers = ap (λ (x : Table). x.views) becomes ∙ ap (λ (l : List View). set l 0 (seat.Master m')) h.views in
       coming_is p t' m' h.callers views ∙ sym (coming_is p t h.master h.callers h.views)
 
-  -- a seat came that counted nothing
+  -- a new seat that has counted nothing changes no hold under way
   comes_new : (m' : MasterView) (c : CallerView) → c.pinning ≡ None → t'.views ≡ seats m' (h.callers ++ c ∷ []) → NoneComes t t'
   comes_new m' c single views p =
       let a = coming_is p t' m' (h.callers ++ c ∷ []) views in
@@ -193,7 +193,7 @@ module _ (slots limit : ℕ) (t t' : Table) (h : Shown slots limit t) where
 pub hand_sits : (slots limit : ℕ) (t t' : Table) → Shown slots limit t → (j : ℕ) → WordStep t (hands_on j) t' → OneSits t t'
 hand_sits slots limit t t' h j s = sits slots limit t t' h j s.0 s.4 s.1 s.3 s.5
 
--- the pin under way is the same whatever a step found
+-- the key of which a caller counted a hold is the same, whichever of its two outcomes a step has
 either_same : (b : Bool) (x y : CallerView) (o : Option Key) → x.pinning ≡ o → y.pinning ≡ o → (if b then x else y).pinning ≡ o
 either_same true x y o l r = l
 either_same false x y o l r = r
@@ -217,7 +217,7 @@ hide_same n c = either_same (has_hide n) (after_step c.phase c.undo_due n c) (af
 look_hidden_same : (n : ℕ) (c : CallerView) → (after_look_hidden n c).pinning ≡ c.pinning
 look_hidden_same n c = either_same (is_unused n) (after_step Hidden false n c) (after_step c.phase c.undo_due n c) c.pinning refl refl
 
--- what each step of the table makes of the holds under way
+-- what each step of the table does to the holds under way
 pub holds_under_way : (slots limit : ℕ) (t : Table) (kind : StepKind) (t' : Table) → Shown slots limit t → WordStep t kind t' → NoneComes t t' ⊎ (OneComes t t' ⊎ OneSits t t')
 holds_under_way slots limit t (tries j) t' h s = inl (caller_keeps slots limit t t' h j s.0 s.2.there _ _ _ s.2.becomes (try_same (slice_index t.words (active_index s.0.key.slot)) s.0))
 holds_under_way slots limit t (undoes j) t' h s = inl (caller_keeps slots limit t t' h j s.0 s.2.there _ _ _ s.2.becomes refl)

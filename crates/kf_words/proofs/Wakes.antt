@@ -1,4 +1,4 @@
--- A load of the count of a slot's sleepers finds those who sleep there.
+-- While a caller sleeps at a slot, a load of the count of the slot's sleepers finds a number above 0.
 use Rattle.std.proofs.Common.{◌≡◌, ◌≢◌, ◌⊎◌, inl, inr, ℕ, zero, suc, ◌+◌, ◌*◌, ◌%◌, ◌<◌, ◌≤◌, Bool, true, false, eqb, List, [], ◌∷◌, ◌++◌, length, set, get_or, if◌then◌else◌, refl, sym, ap, ◌∙◌, subst, arith, get_or-set_same, get_or-set_other, eq-eqb, ne_eqb}
 use Rattle.std.specs.Prelude.{All, slice_index}
 use Rattle.std.specs.List.{repeat}
@@ -101,12 +101,12 @@ count_stays slot t (hides j) t' o s = by_step slot t t' _ _ _ _ (not_active slot
 count_stays slot t (looks_hidden j) t' o s = by_step slot t t' _ _ _ _ (not_active slot s.0.key.slot) s.2.becomes
 count_stays slot t (shows j) t' o s = by_step slot t t' _ _ _ _ (not_active slot s.0.key.slot) s.2.becomes
 
--- the number is among these
+-- the number is in the list
 abbrev Has : List ℕ → ℕ → Type 0
 Has [] j = ⊥
 Has (x ∷ xs) j = (x ≡ j) ⊎ Has xs j
 
--- these without the first that is this number
+-- the list without the first item that is this number
 abbrev without : ℕ → List ℕ → List ℕ
 without j [] = []
 without j (x ∷ xs) = if eqb x j then xs else x ∷ without j xs
@@ -133,15 +133,16 @@ others_stay i j (x ∷ xs) ne h = dite (ℕ_discrete x j)
       | inr more ↦ inr (others_stay i j xs ne more)
     ]))
 
--- the caller is among these sleepers and these steps do not take it off, or it sleeps after them
+-- the caller is among these sleepers and these steps do not take it off the count, or it falls asleep in them
+-- and is asleep after them
 abbrev SleepsOn : ℕ → ℕ → List ℕ → List StepKind → Type 0
 SleepsOn slot j asleep kinds = (Has asleep j × All (λ kind. kind ≢ awakes slot j) kinds) ⊎ IsAsleep slot j kinds
 
--- a caller takes itself off only while it sleeps, if these sleep before the steps
+-- a caller takes itself off the count only while it sleeps, if these callers sleep before the steps
 abbrev OnlyTheyAwake : ℕ → List ℕ → List StepKind → Type 0
 OnlyTheyAwake slot asleep kinds = (before later : List StepKind) (j : ℕ) → kinds ≡ before ++ awakes slot j ∷ later → SleepsOn slot j asleep before
 
--- the count of the slot's sleepers is this number, wrapped round
+-- the count of the slot's sleepers is this number modulo 2 ^ 64
 abbrev Counts : ℕ → Table → ℕ → Type 0
 Counts slot t n = slice_index t.words (sleepers_index slot) ≡ n % 18446744073709551616
 
@@ -149,7 +150,7 @@ no_split : (before later : List StepKind) (x : StepKind) → [] ≡ before ++ x 
 no_split [] later x e = cc
 no_split (y ∷ before) later x e = cc
 
--- when the sleeper fell asleep: at the first of the steps, or later
+-- the sleeper fell asleep at the first of the steps, or later
 fell : (slot j : ℕ) (kind : StepKind) (kinds : List StepKind) → IsAsleep slot j (kind ∷ kinds)
     → ((kind ≡ sleeps slot j) × All (λ kind. kind ≢ awakes slot j) kinds) ⊎ IsAsleep slot j kinds
 fell slot j kind kinds ([], later, e, never) =
@@ -160,11 +161,12 @@ fell slot j kind kinds (y ∷ before, later, e, never) =
     let rest : kinds ≡ before ++ sleeps slot j ∷ later = cc in
     inr (before, later, rest, never)
 
--- whoever sleeps on over this step, if these sleep before it, sleeps on if those sleep after it
+-- a caller that sleeps on over this step and later ones, if `asleep` sleep before it, sleeps on over the
+-- later ones if `after` sleep after it
 abbrev GoesOver : ℕ → List ℕ → List ℕ → StepKind → Type 0
 GoesOver slot asleep after kind = (j : ℕ) (some : List StepKind) → SleepsOn slot j asleep (kind ∷ some) → SleepsOn slot j after some
 
--- a sleeper sleeps on over the first step, which makes these sleepers of those
+-- a sleeper sleeps on over the first step, which changes the sleepers from `asleep` to `after`
 goes_on : (slot j : ℕ) (asleep after : List ℕ) (kind : StepKind) (kinds : List StepKind)
     → (Has asleep j → kind ≢ awakes slot j → Has after j) → (kind ≡ sleeps slot j → Has after j)
     → SleepsOn slot j asleep (kind ∷ kinds) → SleepsOn slot j after kinds
@@ -176,12 +178,13 @@ goes_on slot j asleep after kind kinds stays comes s = elim s [
   ]
 ]
 
--- the premise goes over to the later steps
+-- `OnlyTheyAwake` carries over to the later steps
 only_they : (slot : ℕ) (asleep after : List ℕ) (kind : StepKind) (kinds : List StepKind)
     → GoesOver slot asleep after kind → OnlyTheyAwake slot asleep (kind ∷ kinds) → OnlyTheyAwake slot after kinds
 only_they slot asleep after kind kinds on w before later j e = on j before (w (kind ∷ before) later j (ap (λ l. kind ∷ l) e))
 
--- over a run, from a table in which these sleep and are counted: so are those at its end
+-- what holds at the end of a run, if these callers sleep at its start and are counted there: those that sleep
+-- at its end are counted
 record Ends (slot : ℕ) (asleep : List ℕ) (kinds : List StepKind) (u : Table) : Type 0 where
   now : List ℕ
   counted : Counts slot u (length now)

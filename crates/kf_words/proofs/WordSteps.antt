@@ -1,4 +1,5 @@
--- Each step of the table as a whole keeps the rule, and is an event of the world or none.
+-- Each step of the table keeps the rule, and the world after it follows from the world before it as `Led`
+-- says.
 use Rattle.std.proofs.Common.{◌≡◌, inl, inr, ℕ, suc, ◌+◌, true, false, [], map, length, set, refl, sym, ap, ◌∙◌, subst, ⊎_elim}
 use Rattle.std.specs.Prelude.{slice_index, Some, None}
 use Rattle.std.proofs.lemmas.Option.{get_or_from_slice_get}

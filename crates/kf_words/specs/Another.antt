@@ -13,7 +13,7 @@ use Rattle.kf_words.specs.Callers.{Handle, CallerSight, seat_view}
 use Rattle.kf_words.specs.TableSteps.{StepKind, sees_holds}
 use Rattle.kf_words.specs.Made.{WasMade, WereMade, WasDoubled}
 
--- the hold is as it was, except how many steps it made, what the last found, and what it has seen
+-- the hold's phase and its number of tries are as they were, and so is whether it has a try to undo
 pub record StaysAs (old new : Handle) : Type 0 where
   pub phase : new.phase ≡ old.phase
   pub tries : new.tries ≡ old.tries
@@ -31,17 +31,19 @@ pub record IsAnother (hold other : Handle) : Type 0 where
   pub still : other.phase ≡ Still
   pub steps : other.steps ≡ 0
 
--- steps on a hold word that counted nothing, from this many to this many, and no other
+-- this seat made steps of this kind, at least the first number of them and at most the second, and no other
+-- step
 abbrev pub Missed : (ℕ → StepKind) → ℕ → ℕ → CallerSight → CallerSight → Type 0
 Missed kind least most before after =
     (count : ℕ) × (least ≤ count) × (count ≤ most) × WereMade kind count before after
 
--- after 63 such steps at most one step counted one hold more, and a new seat got it
+-- after at most 63 steps that counted nothing, one step counted one more hold, and a new seat got it
 abbrev pub WasCountedFor : CallerSight → CallerSight → Seen → Type 0
 WasCountedFor before after seen =
     (missed : CallerSight) × Missed sees_holds 0 63 before missed × WasDoubled missed after seen
 
--- this many such steps, and each but the first found another word than the one before it
+-- this seat made this many steps of this kind, and each of them except the first found a word that differs
+-- from the word that the step before it found
 abbrev pub WereOutrun : (ℕ → StepKind) → ℕ → CallerSight → CallerSight → Type 0
 WereOutrun kind zero before after = after ≡ before
 WereOutrun kind (suc count) before after = (between : CallerSight) × WereOutrun kind count before between
@@ -51,9 +53,9 @@ WereOutrun kind (suc count) before after = (between : CallerSight) × WereOutrun
 abbrev pub HasNoSpare : Handle → Type 0
 HasNoSpare h = h.seen.opening.holds ≤ holds_in h.found + 1
 
--- another hold is refused as one too many if the last step found a word without a spare place, and for
--- lack of memory if it found one with such a place; as busy if others changed the word between each of
--- 64 steps and the next; for no other cause
+-- why another hold is refused. With TooManyHolds, the last step found a word without a spare place. With
+-- NoMemory, it found a word with one. With Busy, 64 steps were made, and others changed the word between each
+-- of them and the next. There is no other refusal
 abbrev pub AnotherRefused : Handle → Handle → Refusal → Type 0
 AnotherRefused before after TooManyHolds = HasNoSpare after
 AnotherRefused before after NoMemory = HasSpare after.seen.opening.holds after.found

@@ -1,4 +1,4 @@
--- What contracts see of a caller's seat, and what each call says of it.
+-- What contracts see of a caller's seat, and what each call says about it.
 use Rattle.std.specs.Prelude.{◌≡◌, ℕ, ◌+◌, Bool, true, false, Option}
 pub use Rattle.atomic_table.specs.Seated.{TableId}
 use Rattle.kf_core.specs.declared.key.Key.{Key}
@@ -18,7 +18,7 @@ use Rattle.kf_words.specs.declared.sight.Sight.{Sight}
 use Rattle.kf_words.specs.Layout.{keeps_out, is_drained, has_hide, is_unused, has_linked}
 use Rattle.kf_words.specs.Steps.{caller_of}
 
--- what contracts see of a hold, call or receipt: its seat, its key and node, and how far it is
+-- what contracts see of a hold, call or receipt: its seat, its key and node, and what it has done so far
 pub record Handle : Type 0 where
   pub table : TableId  -- which table of words
   pub seat : ℕ  -- which seat there
@@ -27,9 +27,9 @@ pub record Handle : Type 0 where
   pub phase : Phase
   pub steps : ℕ  -- how many word steps it has made
   pub tries : ℕ  -- how many of them were tries
-  pub found : ℕ  -- the word that its last step found, the second step of a refused try left out
-  pub undo_due : Bool  -- it is between the two steps of a refused try, as no hold, call or receipt is
-  pub pinning : Option Key  -- what it counted one hold more of that has no seat yet, as no hold or call did
+  pub found : ℕ  -- the word that its last step found, not counting the second step of a refused try
+  pub undo_due : Bool  -- it is between the two steps of a refused try; no hold, call or receipt is
+  pub pinning : Option Key  -- the key of a hold that it counted, with no seat yet; None in a hold or call
   pub seen : Seen  -- the beginning of the one run of all steps at the table that it has seen
 
 -- which seat of which table, and the node that was born with its key
@@ -51,7 +51,7 @@ pub record CallerSight : Type 0 where
 abbrev pub caller_sight : Sight → CallerSight
 caller_sight s = record { view = caller_of s.view; seen = s.seen }
 
--- the caller's view, which the token of its seat has
+-- the caller's view, which is in the token of its seat
 abbrev pub view_of : CallerSeat → CallerView
 view_of s = caller_of s.token.me.0.view
 
@@ -81,14 +81,14 @@ handle_of s = record {
   seen = s.token.me.0.seen;
 }
 
--- it is the same seat of the same table still, with the same key and node
+-- it is still the same seat of the same table, with the same key and node
 pub record IsSameSeat (old new : Handle) : Type 0 where
   pub table : new.table ≡ old.table
   pub seat : new.seat ≡ old.seat
   pub key : new.key ≡ old.key
   pub node : new.node ≡ old.node
 
--- the same seat, which has seen this beginning of the run and is else as it was
+-- the same seat, which has now seen this beginning of the run and is otherwise as it was
 abbrev pub having_seen : Seen → Handle → Handle
 having_seen seen h = record h { seen = seen }
 
@@ -105,11 +105,11 @@ is_in_call Hiding = false
 is_in_call Hidden = false
 is_in_call Spent = false
 
--- no reference, and no try to undo
+-- the caller is Still or Turned, and has no try to undo
 abbrev pub IsAtRest : CallerView → Type 0
 IsAtRest c = (is_waiting c.phase ≡ true) × (c.undo_due ≡ false)
 
--- a reference, and no try to undo
+-- the caller has a reference, and no try to undo
 abbrev pub HasReference : CallerView → Type 0
 HasReference c = (has_reference c.phase ≡ true) × (c.undo_due ≡ false)
 
@@ -141,7 +141,7 @@ SawUse before after =
 abbrev pub WasLeft : Handle → Handle → Type 0
 WasLeft before after = (after.phase ≡ Still) × (after.steps ≡ before.steps + 1)
 
--- one step gave the reference up inside the call
+-- one step gave up the reference inside the call
 abbrev pub WasBroken : Handle → Handle → Type 0
 WasBroken before after = (after.phase ≡ Broken) × (after.steps ≡ before.steps + 1)
 
@@ -159,12 +159,12 @@ abbrev pub SawLinked : Handle → Handle → Type 0
 SawLinked before after =
     (after.phase ≡ before.phase) × (after.steps ≡ before.steps + 1) × (has_linked after.found ≡ true)
 
--- its one step set the bit of a hidden key
+-- its one step found the bit HIDE clear, and set it
 abbrev pub WasHidden : Handle → Handle → Type 0
 WasHidden before after =
     (after.phase ≡ Hiding) × (after.steps ≡ before.steps + 1) × (has_hide after.found ≡ false)
 
--- its one step found the bit set
+-- its one step found the bit HIDE set
 abbrev pub FoundHidden : Handle → Handle → Type 0
 FoundHidden before after =
     (after.phase ≡ before.phase) × (after.steps ≡ before.steps + 1) × (has_hide after.found ≡ true)
@@ -179,12 +179,12 @@ abbrev pub SawUser : Handle → Handle → Type 0
 SawUser before after =
     (after.phase ≡ before.phase) × (after.steps ≡ before.steps + 1) × (is_unused after.found ≡ false)
 
--- one step took the bit of a hidden key off, which it found set
+-- its one step found the bit HIDE set, and cleared it
 abbrev pub WasShown : Handle → Handle → Type 0
 WasShown before after =
     (after.phase ≡ Still) × (after.steps ≡ before.steps + 1) × (has_hide after.found ≡ true)
 
--- one step gave the hold of the slot back
+-- one step released the hold of the slot
 abbrev pub WasReleased : Handle → Handle → Type 0
 WasReleased before after = (after.phase ≡ Spent) × (after.steps ≡ before.steps + 1)
 
@@ -203,13 +203,13 @@ seat_view h = record {
   seen = h.seen;
 }
 
--- what a step that took one user off an active word owes to the sleepers there: a wake, if one of them
--- may wait for the word that is left without that user
+-- what a step owes to the sleepers at an active word if it found this word in this slot, and took one user
+-- off it. It owes a wake if one of them may be waiting for the word that is left without that user
 pub record Owed : Type 0 where
   pub slot : ℕ
   pub found : ℕ
 
--- the sleepers are to be woken
+-- the sleepers must be woken
 abbrev pub is_wanted : Wake → Bool
 is_wanted Wanted = true
 is_wanted Unwanted = false

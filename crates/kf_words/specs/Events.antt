@@ -1,4 +1,4 @@
--- Which event each step of a seat is, on the world that the views name.
+-- Which event each step of a seat is, in the world that the views name.
 use Rattle.std.specs.Prelude.{◌≡◌, ◌≢◌, ℕ, ◌+◌, List, [], ◌∷◌, ◌++◌, length, Some, is_some, slice_get, slice_set, true, false}
 use Rattle.atomic_table.specs.Table.{State}
 use Rattle.kf_core.specs.declared.key.Key.{Key}
@@ -21,26 +21,27 @@ use Rattle.kf_words.specs.Steps.{after_try, after_undo, after_leave, after_break
 use Rattle.kf_words.specs.Callers.{IsAtRest, HasReference, IsInPhase}
 use Rattle.kf_words.specs.Nodes.{marks_of}
 
--- whatever the words show, of the caller of each number
+-- the law holds for the caller of each number, in every table that meets the rule
 abbrev pub OfEachCaller : (List ℕ → MasterView → List CallerView → ℕ → CallerView → Type 0) → Type 0
 OfEachCaller Law = (slots limit : ℕ) (t : State (Unit {0}) View) (shown : Shown slots limit t) (j : ℕ)
     (c : CallerView) → slice_get shown.callers j ≡ Some c → Law t.words shown.master shown.callers j c
 
--- whatever the words show, of the Master
+-- the law holds for the Master, in every table that meets the rule
 abbrev pub OfTheMaster : (MasterView → List CallerView → Type 0) → Type 0
 OfTheMaster Law =
     (slots limit : ℕ) (t : State (Unit {0}) View) (shown : Shown slots limit t)
     → Law shown.master shown.callers
 
--- a new view of the caller of this number makes this event of the world
+-- if the caller of this number gets this new view, that is this event of the world that the views name
 abbrev pub Moves : MasterView → List CallerView → ℕ → CallerView → Event → Type 0
 Moves m cs j c' event = BareStep (bare_world m cs) event (bare_world m (slice_set cs j c'))
 
--- a new view of the Master makes this event of the world
+-- if the Master gets this new view, that is this event of the world that the views name
 abbrev pub Changes : MasterView → List CallerView → MasterView → Event → Type 0
 Changes m cs m' event = BareStep (bare_world m cs) event (bare_world m' cs)
 
--- a try, which finds the active word as it is, is an Enter: the caller runs exactly if its node is live
+-- a try, which finds the active word as it is in the table, is an Enter: it lets the caller run if and only
+-- if the node is live
 abbrev pub TryIsEnter : Type 0
 TryIsEnter = OfEachCaller
     (λ words m cs j c. IsAtRest c → Moves m cs j (after_try (active_word words c.key.slot) c) (Enter j))
@@ -57,69 +58,71 @@ LookIsLook = OfEachCaller
     (λ words m cs j c. IsAtRest c → is_drained (active_word words c.key.slot) ≡ true
     → Moves m cs j (after_look (active_word words c.key.slot) c) (Look j))
 
--- a load that finds no node linked is a Part
+-- a load by a drained caller that finds no node linked is a Part
 abbrev pub PartIsPart : Type 0
 PartIsPart = OfEachCaller
     (λ words m cs j c. IsInPhase Drained c → has_linked (hold_word words c.key.slot) ≡ false
     → Moves m cs j (after_part (hold_word words c.key.slot) c) (Part j))
 
--- the end of a call is a Leave, at any word that the step finds
+-- the end of a call is a Leave, whatever word the step finds
 abbrev pub LeaveIsLeave : Type 0
 LeaveIsLeave =
     OfEachCaller (λ words m cs j c. HasReference c → (found : ℕ)
     → Moves m cs j (after_leave found c) (Leave j))
 
--- a reference given up inside its call is a Break, at any word that the step finds
+-- a step that gives up a reference inside its call is a Break, whatever word it finds
 abbrev pub BreakIsBreak : Type 0
 BreakIsBreak =
     OfEachCaller (λ words m cs j c. IsInPhase Running c → (found : ℕ)
     → Moves m cs j (after_break found c) (Break j))
 
--- a reference taken again inside its call is a Restore, at any word that the step finds
+-- a step that takes a reference again inside its call is a Restore, whatever word it finds
 abbrev pub RestoreIsRestore : Type 0
 RestoreIsRestore = OfEachCaller
     (λ words m cs j c. IsInPhase Broken c → (found : ℕ) → Moves m cs j (after_restore found c) (Restore j))
 
--- a hold given back is a Release, at any word that the step finds
+-- a step that releases a hold is a Release, whatever word it finds
 abbrev pub ReleaseIsRelease : Type 0
 ReleaseIsRelease = OfEachCaller
     (λ words m cs j c. may_release c.phase ≡ true → (found : ℕ)
     → Moves m cs j (after_release found c) (Release j))
 
--- the bit of a hidden key set if the word had it clear is a Hide
+-- a step that finds the bit HIDE clear, and sets it, is a Hide
 abbrev pub HideIsHide : Type 0
 HideIsHide = OfEachCaller
     (λ words m cs j c. IsAtRest c → has_hide (active_word words c.key.slot) ≡ false
     → Moves m cs j (after_hide (active_word words c.key.slot) c) (Hide j))
 
--- a load by a hider that finds nobody who uses the node is a LookHidden
+-- a load by a Hiding caller that finds nobody who uses the node is a LookHidden
 abbrev pub LookHiddenIsLook : Type 0
 LookHiddenIsLook = OfEachCaller
     (λ words m cs j c. IsInPhase Hiding c → is_unused (active_word words c.key.slot) ≡ true
     → Moves m cs j (after_look_hidden (active_word words c.key.slot) c) (LookHidden j))
 
--- the bit taken off is a Show
+-- a step by which a Hidden caller clears the bit HIDE is a Show, whatever word it finds
 abbrev pub ShowIsShow : Type 0
 ShowIsShow =
     OfEachCaller (λ words m cs j c. IsInPhase Hidden c → (found : ℕ)
     → Moves m cs j (after_show found c) (Show j))
 
--- a hold that a caller counted, and that gets its seat, is a Pin of that caller's key
+-- if a caller that is not Spent counted a hold of its key, the step that gives this hold its seat is a Pin of
+-- that key
 abbrev pub ShareIsPin : Type 0
 ShareIsPin = OfEachCaller
     (λ words m cs j c. c.phase ≢ Spent
     → BareStep (bare_world m cs) (Pin (length cs) c.key)
     (bare_world m (slice_set cs j (after_share c) ++ new_hold c.key ∷ [])))
 
--- a hold that any caller counts in the hold word of a slot that has a linked node is a Pin of that node's
--- key, on the world in which it is a caller at once
+-- any caller may count a hold in the hold word of a slot that has a linked node. This is a Pin of that node's
+-- key, in the world in which the hold is a caller at once
 abbrev pub CountAtIsPin : Type 0
 CountAtIsPin = OfEachCaller (λ words m cs j c. (slot : ℕ) → has_linked (hold_word words slot) ≡ true
     → let key : Key = key_in slot (hold_word words slot) in
     BareStep (bare_world m cs) (Pin (length cs) key) (with_caller (bare_world m cs) key))
 
--- a look that finds another word, a load that finds a node linked, and a hold more that has no seat yet leave
--- the world as it is
+-- these steps leave the world as it is: a look that finds the word not drained; a load that finds a node
+-- linked; a step that finds the bit HIDE already set; a hider's load that finds a user; a step on a hold word
+-- that counts nothing; and one that counts one more hold, which has no seat yet
 abbrev pub MissIsNothing : Type 0
 MissIsNothing = OfEachCaller
     (λ words m cs j c. (found : ℕ)
@@ -131,7 +134,7 @@ MissIsNothing = OfEachCaller
     × (bare_world m (slice_set cs j (after_count found c)) ≡ bare_world m cs)
     × ((slot : ℕ) → bare_world m (slice_set cs j (after_count_at slot found c)) ≡ bare_world m cs))
 
--- the bias taken off the active word of a fresh node is a Rise
+-- the step that activates a linked node, which is neither activated nor doomed, is a Rise
 abbrev pub RiseIsRise : Type 0
 RiseIsRise = OfTheMaster
     (λ m cs. (key : Key) → marks_of m key ≡ Some fresh_marks
@@ -143,7 +146,7 @@ MarkIsMark = OfTheMaster
     (λ m cs. (key : Key) (x : NodeFlags) → marks_of m key ≡ Some x → x.doomed ≡ false
     → Changes m cs (with_marks doomed_marks key.slot m) (Mark key))
 
--- a birth in the slot in which the last step stored a new active word is a Born of the slot's next key
+-- a birth in the slot in which the Master has just stored a new active word is a Born of the slot's next key
 abbrev pub BirthIsBorn : Type 0
 BirthIsBorn = OfTheMaster
     (λ m cs. (slot : ℕ) (state : SlotState) (parent : Key) (name : NameBytes) (node : Node)
@@ -151,13 +154,14 @@ BirthIsBorn = OfTheMaster
     → Changes m cs (with_birth slot m)
     (Born (record { slot = slot; generation = state.generation + 1 }) parent name node))
 
--- the node of a drained caller taken out of its slot is an Unlink
+-- the step that takes the linked node of a drained caller out of its slot is an Unlink
 abbrev pub UnlinkIsUnlink : Type 0
 UnlinkIsUnlink = OfTheMaster
     (λ m cs. (j : ℕ) (c : CallerView) → slice_get cs j ≡ Some c → c.phase ≡ Drained
     → is_some (marks_of m c.key) ≡ true → Changes m cs (without_node c.key.slot m) (Unlink j))
 
--- a hold that gets its seat is a Pin of the slot's last key, if that may be pinned
+-- when a hold that the Master counted gets its seat, that is a Pin of the slot's last key, if this key may be
+-- pinned
 abbrev pub SplitIsPin : Type 0
 SplitIsPin = OfTheMaster
     (λ m cs. (slot : ℕ) (state : SlotState) → m.pinning ≡ Some slot → slice_get m.slots slot ≡ Some state
@@ -165,7 +169,8 @@ SplitIsPin = OfTheMaster
     → BareStep (bare_world m cs) (Pin (length cs) (last_key slot state))
     (bare_world (after_split m) (cs ++ hold_for m m.pinning ∷ [])))
 
--- a hold that gets its seat is a Pin also of the key of any caller that holds the slot
+-- when a hold that the Master counted gets its seat, that is also a Pin of the key of any caller that holds
+-- the slot
 abbrev pub HeldSplitIsPin : Type 0
 HeldSplitIsPin = OfEachCaller (λ words m cs j c. c.phase ≢ Spent → m.pinning ≡ Some c.key.slot
     → BareStep (bare_world m cs) (Pin (length cs) c.key)
@@ -180,15 +185,17 @@ RestIsNothing = OfTheMaster
     × (bare_world (without_pin slot m) cs ≡ bare_world m cs)
     × (bare_world (after_store slot m) cs ≡ bare_world m cs))
 
--- a seat that holds nothing came to this key: that is a Pin of it, and at once its Release
+-- to add a seat of this key that holds nothing is a Pin of the key, followed at once by the Release
 abbrev pub Passes : MasterView → List CallerView → Key → Type 0
 Passes m cs key = BareRun (bare_world m cs) (Pin (length cs) key ∷ Release (length cs) ∷ [])
     (bare_world m (cs ++ spent_hold key ∷ []))
 
--- so is the seat that carries what a caller has seen, of that caller's key
+-- if a caller is not Spent, to add the seat that carries what it has seen is a Pin of its key, followed at
+-- once by the Release
 abbrev pub ReportPasses : Type 0
 ReportPasses = OfEachCaller (λ words m cs j c. c.phase ≢ Spent → Passes m cs c.key)
 
--- so is the seat that carries what the Master has seen, of a key that may be pinned
+-- if a key may be pinned, to add a seat of this key that carries what the Master has seen is a Pin of the
+-- key, followed at once by the Release
 abbrev pub AnswerPasses : Type 0
 AnswerPasses = OfTheMaster (λ m cs. (key : Key) → MayPin (bare_world m cs) key → Passes m cs key)

@@ -18,15 +18,16 @@ abbrev pub AlwaysSafe : Type 0
 AlwaysSafe = (slots limit : ℕ) (t : State (Unit {0}) View) (shown : Shown slots limit t)
     → Safe (bare_world shown.master shown.callers)
 
--- a slot's active word lets a try in exactly if the slot's last key is live
+-- a slot's active word lets a try in if and only if the slot's last key is live
 abbrev pub LetsInTheLive : Type 0
 LetsInTheLive = (slots limit : ℕ) (t : State (Unit {0}) View) (shown : Shown slots limit t) (slot : ℕ)
     (state : SlotState) → slice_get shown.master.slots slot ≡ Some state
     → keeps_out (active_word t.words slot)
     ≡ not (is_live (bare_world shown.master shown.callers) (last_key slot state))
 
--- a slot's active word has bias exactly if its last key is not linked, activated and undoomed, and hide
--- exactly if a caller hides that key
+-- a slot's active word has the bit BIAS if and only if the marks of its last key are not those of a live
+-- node: it is not linked, or not activated, or doomed. The word has the bit HIDE if and only if a caller
+-- hides that key
 abbrev pub TellsTheHidden : Type 0
 TellsTheHidden = (slots limit : ℕ) (t : State (Unit {0}) View) (shown : Shown slots limit t) (slot : ℕ)
     (state : SlotState) → slice_get shown.master.slots slot ≡ Some state
@@ -34,15 +35,16 @@ TellsTheHidden = (slots limit : ℕ) (t : State (Unit {0}) View) (shown : Shown 
     × (has_hide (active_word t.words slot)
     ≡ is_hidden (bare_world shown.master shown.callers) (last_key slot state))
 
--- while a caller hides its key a try there is refused, and once it is hidden nobody is running there
+-- while a caller hides its key, a try there is refused, and once the caller is Hidden, nobody is running
+-- there
 abbrev pub HiddenIsRefused : Type 0
 HiddenIsRefused = (slots limit : ℕ) (t : State (Unit {0}) View) (shown : Shown slots limit t) (j : ℕ)
     (c : CallerView) → slice_get shown.callers j ≡ Some c → is_hiding c.phase ≡ true
     → (keeps_out (active_word t.words c.key.slot) ≡ true)
     × (c.phase ≡ Hidden → NoneRunning (bare_world shown.master shown.callers) c.key)
 
--- the step by which a hidden caller shows its key again takes the bit off and leaves the rest. The word then
--- lets a try in exactly if the key is linked, activated and undoomed, whatever became of it meanwhile
+-- while a caller is Hidden, its slot's active word has the bit HIDE. If this bit is cleared, as by the step
+-- that shows the key, the word lets a try in if and only if the key is linked, activated and not doomed
 abbrev pub ShownLetsIn : Type 0
 ShownLetsIn = (slots limit : ℕ) (t : State (Unit {0}) View) (shown : Shown slots limit t) (j : ℕ)
     (c : CallerView) → slice_get shown.callers j ≡ Some c → c.phase ≡ Hidden
@@ -64,7 +66,7 @@ FreeIsUnheld = (slots limit : ℕ) (t : State (Unit {0}) View) (shown : Shown sl
     → IsFree (hold_word t.words slot) → (state.marks ≡ None)
     × OnlySpent (bare_world shown.master shown.callers) slot
 
--- a slot's hold word has the bit of a linked node exactly if one is linked there
+-- a slot's hold word has the bit LINKED if and only if a node is linked there
 abbrev pub TellsTheLinked : Type 0
 TellsTheLinked = (slots limit : ℕ) (t : State (Unit {0}) View) (shown : Shown slots limit t) (slot : ℕ)
     (state : SlotState) → slice_get shown.master.slots slot ≡ Some state

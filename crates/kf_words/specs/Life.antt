@@ -1,4 +1,5 @@
--- A run with every kind of step on words: the whole life of a node, and the birth of the next in its slot.
+-- A run with every kind of step on words: the whole life of a node, and the birth of the next node in its
+-- slot.
 use Rattle.std.specs.Prelude.{ℕ, Bool, true, false, List, [], ◌∷◌, map, Option, None, Some}
 use Rattle.kf_core.specs.declared.command.Command.TheVariants.{Doom}
 use Rattle.kf_core.specs.declared.caller.Phase.{Phase}
@@ -21,7 +22,7 @@ use Rattle.kf_words.specs.History.{Kept, opened_as}
 abbrev pub with_marks_of : Bool → Bool → NodeFlags
 with_marks_of activated doomed = record { activated = activated; doomed = doomed }
 
--- a caller that came for the first node of slot 1
+-- the view of a caller with the first key of slot 1
 abbrev pub caller_at : Phase → ℕ → ℕ → ℕ → Bool → CallerView
 caller_at phase steps tried found due = record {
   key = record { slot = 1; generation = 1 };
@@ -33,16 +34,16 @@ caller_at phase steps tried found due = record {
   pinning = None;
 }
 
--- a caller that came for the next node there
+-- the view of a caller with the next key there
 abbrev pub next_caller : Phase → ℕ → ℕ → ℕ → Bool → CallerView
 next_caller phase steps tried found due =
     record (caller_at phase steps tried found due) { key = record { slot = 1; generation = 2 } }
 
--- the same after it counted one hold more, which has no seat yet
+-- the caller's view after it counted one more hold of its key, which has no seat yet
 abbrev pub with_one_more : CallerView → CallerView
 with_one_more c = record c { pinning = Some c.key }
 
--- the Master of two slots, with three holds at most, by what it knows of slot 1
+-- the view of the Master of two slots, each with at most three holds, by what it knows of slot 1
 abbrev pub master_at : ℕ → Option NodeFlags → Option ℕ → Option ℕ → List Load → List Load → Option Load
     → MasterView
 master_at last marks pinning fresh loads at_birth looked = record {
@@ -68,9 +69,9 @@ table_with active hold sleepers m cs = record {
 abbrev pub table_at : ℕ → ℕ → MasterView → List CallerView → Table
 table_at active hold m cs = table_with active hold 0 m cs
 
--- caller 0 calls into the node, caller 1 hides it, shows it, and removes it. Of the node that is out caller 0
--- makes another hold, once there is room. Of the next node there caller 3 makes one by its key, and meets the
--- Master
+-- caller 0 calls into the node; caller 1 hides the node, shows it, and removes it. After the node is taken
+-- out, caller 0 makes another hold of its key, once there is room. Then a next node is born there. Caller 3
+-- makes a hold of that node by its key, and meets the Master
 abbrev pub word_life : List StepKind
 word_life = loads_hold 1 ∷ stores_fresh 1 ∷ births 1 ∷ takes_bias 1 ∷ loads_hold 1 ∷ pins_hold 1
     ∷ splits 1 ∷ loads_hold 1 ∷ pins_hold 1 ∷ splits 1 ∷ tries 0 ∷ hides 1
@@ -85,7 +86,7 @@ word_life = loads_hold 1 ∷ stores_fresh 1 ∷ births 1 ∷ takes_bias 1 ∷ lo
     ∷ hands_on 3
     ∷ reads_node 1 0 3 ∷ reports 3 ∷ compares ∷ answers ∷ []
 
--- how the table opens there
+-- the opening of the table in this run
 abbrev pub life_opening : Opening
 life_opening = record { holds = 3; slots = 2; start = 0 }
 
@@ -103,12 +104,12 @@ lived = table_at 4294967296 10737418242
 abbrev pub WordLife : Type 0
 WordLife = AttendedRun (opened_as life_opening) word_life lived
 
--- a seat that has seen the whole of it
+-- what a seat with this view knows if it has seen the whole run
 abbrev pub saw_life : View → Sight
 saw_life v =
     record { view = v; seen = record { opening = life_opening; steps = word_life }; shown = [] }
 
--- the table at its end meets the rule, and each seat there has seen the whole of it
+-- the table at the end of the run meets the rule if each of its seats has seen the whole run
 abbrev pub LifeIsKept : Type 0
 LifeIsKept =
     Kept life_opening (record { words = lived.words; homes = lived.homes; views = map saw_life lived.views })

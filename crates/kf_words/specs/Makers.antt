@@ -1,4 +1,4 @@
--- What contracts see of a maker of holds, and of the owners of the table that it has to spare.
+-- What contracts see of a maker of holds, and of its spare owners of the table.
 use Rattle.std.specs.Prelude.{◌≡◌, ℕ, List, All}
 use Rattle.std.specs.Arc.{arc_value}
 use Rattle.kf_words.specs.declared.seat.Owner.{Owner}
@@ -6,10 +6,10 @@ use Rattle.kf_words.specs.Callers.{Handle, TableId}
 
 -- a maker of holds
 pub record Maker : Type 0 where
-  pub by : Handle  -- the hold that it makes them by
-  pub spare : ℕ  -- how many owners of the table it has to spare
+  pub by : Handle  -- the hold by which it makes holds
+  pub spare : ℕ  -- how many spare owners of the table it has
 
--- the most owners that a maker keeps
+-- the greatest number of owners that a maker keeps
 abbrev pub most_spare : ℕ
 most_spare = 16
 

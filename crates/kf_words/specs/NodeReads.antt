@@ -8,14 +8,14 @@ use Rattle.kf_words.specs.Callers.{CallerSight}
 use Rattle.kf_words.specs.Made.{WasMade}
 use Rattle.kf_words.specs.NodeWords.{no_notes, notes_after}
 
--- the second has seen the run go on from all that the first had seen
+-- what the second has seen of the run goes on from all that the first has seen
 abbrev pub GoesOn : Seen → Seen → Type 0
 GoesOn before after =
     (more : List StepKind) × (after ≡ record { opening = before.opening; steps = before.steps ++ more })
 
--- a step counted a hold of a key, and a later look at the hold word found the key linked still: each word of
--- its node that was read between the two is the one that stood there when it was born, by the steps that were
--- seen when the hold was counted
+-- suppose that a step counted a hold of a key, and that a later look at the hold word found the key still
+-- linked. Then each word of its node that was read between the two is the word that was there when the node
+-- was born, by the steps that had been seen when the hold was counted
 abbrev pub ReadIsBorn : Type 0
 ReadIsBorn = (key : Key) (place : ℕ) → place < 5 → (first counted before read then last : CallerSight)
     → WasMade (counts_hold_at key.slot) first counted → counted.view.pinning ≡ Some key

@@ -1,4 +1,5 @@
--- The history: what was done while the Master was in hand, as the one run of all steps says it.
+-- The history: the notes of what was done while one thread had the Master, taken from the one run of all
+-- steps.
 use Rattle.std.specs.Prelude.{List, [], ◌∷◌, ◌++◌}
 use Rattle.kf_words.specs.declared.note.Note.{Note}
 use Rattle.kf_words.specs.declared.sight.StepKind.{StepKind}

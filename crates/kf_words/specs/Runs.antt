@@ -15,13 +15,14 @@ use Rattle.kf_words.specs.Rule.{Shown}
 pub use Rattle.kf_words.specs.TableSteps.{Table, master_in, callers_in, world, StepKind, WordStep, WordRun, AttendedRun, opened_table, tries, parts, births}
 pub use Rattle.kf_words.specs.Made.{WasALeave, WasAHide, WasAShow, WereMade, WaitedForDrain, WaitedForHidden, WasATryUndone, WasATryUndoneThenWake, WasALeaveThenWake, WasLetInLive}
 
--- the table opens with the rule, and as the opening world
+-- a new table with at least one slot, and with at most 65535 holds of a slot, meets the rule. Its world is
+-- the opening world
 abbrev pub OpensWell : Type 0
 OpensWell = (slots limit start : ℕ) → 1 ≤ slots → limit ≤ 65535
     → Shown slots limit (opened_table limit slots start)
     × (world (opened_table limit slots start) ≡ bare_opening slots start)
 
--- in each run of any seats, from each table that meets the rule
+-- the law holds over each run of steps of any seats, from each table that meets the rule
 abbrev pub OverRuns : (ℕ → ℕ → Table → Table → Type 0) → Type 0
 OverRuns Law = (slots limit : ℕ) (t u : Table) (kinds : List StepKind) → Shown slots limit t
     → WordRun t kinds u → Law slots limit t u
@@ -48,12 +49,12 @@ newcomer key = record { key = key; phase = Still }
 abbrev pub newcomers : Table → List Caller
 newcomers t = map newcomer (keys_under_way (callers_in t.views))
 
--- the world of a table in which a hold is a caller from the step that counted it
+-- the world of a table, in which a hold is a caller from the step that counted it
 abbrev pub held_world : Table → BareWorld
 held_world t = record { slots = (world t).slots; callers = (world t).callers ++ newcomers t }
 
--- two worlds are equal up to the numbers of their callers: their slots are the same, and as many callers of
--- one pass a test as in the other, whatever the test
+-- two worlds are equal up to the numbers of their callers: their slots are the same, and for each test,
+-- equally many callers pass it in both worlds
 abbrev pub IsRenumbered : BareWorld → BareWorld → Type 0
 IsRenumbered w w' =
     (w.slots ≡ w'.slots) × ((p : Caller → Bool) → count_by p w.callers ≡ count_by p w'.callers)
@@ -66,8 +67,8 @@ IsRunOfEvents w t (kind ∷ kinds) u = IsRenumbered w (held_world t) × (between
     × WordStep t kind between × (events : List Event) × (next : BareWorld) × BareRun w events next
     × IsRunOfEvents next between kinds u
 
--- each attended run of steps is a run of events, from every world that is the first table's up to the numbers
--- of callers
+-- each attended run is a run of steps. From every world that is the first table's up to the numbers of
+-- callers, it is also a run of events
 abbrev pub RunIsRun : Type 0
 RunIsRun = (slots limit : ℕ) (t u : Table) (kinds : List StepKind) → Shown slots limit t
     → AttendedRun t kinds u
@@ -87,7 +88,7 @@ abbrev pub DrainedForGood : Type 0
 DrainedForGood = OverRuns (λ slots limit t u. (c : ℕ) (key : Key) (phase : Phase)
     → IsCaller (world t) c key phase → IsTrue (saw_drain phase) → NoneRunning (world u) key)
 
--- a try of this key, if it is the next step, is refused
+-- if the next step is a try by a caller of this key, that caller is refused
 abbrev pub TryIsRefused : Table → Key → Type 0
 TryIsRefused u key = (j : ℕ) (phase : Phase) (v : Table)
     → IsCaller (world u) j key phase → WordStep u (tries j) v → IsCaller (world v) j key Turned
@@ -97,13 +98,15 @@ abbrev pub MarkedKeepsOut : Type 0
 MarkedKeepsOut = OverRuns (λ slots limit t u. (key : Key) → IsTrue (is_linked (world t) key)
     → IsTrue (is_doomed (world t) key) → IsFalse (is_live (world u) key) × TryIsRefused u key)
 
--- while a caller hides a key, a try there is refused, and once it is hidden nobody is running there
+-- if a caller hides a key at the end of a run, a try there is refused, and if that caller is Hidden, nobody
+-- is running there
 abbrev pub HiddenKeepsOut : Type 0
 HiddenKeepsOut = OverRuns (λ slots limit t u. (c : ℕ) (key : Key) (phase : Phase)
     → IsCaller (world u) c key phase → IsTrue (is_hiding phase) → TryIsRefused u key
     × (phase ≡ Hidden → NoneRunning (world u) key))
 
--- a key whose slot has a later generation at the start of a run has nobody on it but spent callers at its end
+-- if a key's slot has a later generation at the start of a run, only spent callers are on that key at the end
+-- of the run
 abbrev pub PassedForGood : Type 0
 PassedForGood = OverRuns (λ slots limit t u. (key : Key) (generation : ℕ)
     → IsLast (world t) key.slot generation → key.generation < generation → NoneHolding (world u) key)
@@ -119,7 +122,7 @@ abbrev pub LetInLive : Type 0
 LetInLive = OverRuns (λ slots limit t u. (j : ℕ) (key : Key) (v : Table)
     → WordStep u (tries j) v → IsCaller (world v) j key Running → is_live (world u) key ≡ true)
 
--- one step of the run was a try of this caller, which found its key live, and let it run
+-- one step of the run was a try of this caller, which found its key live and let the caller run
 pub record WasLetIn (t : Table) (kinds : List StepKind) (u : Table) (c : ℕ) (key : Key) : Type 0 where
   pub before : List StepKind
   pub later : List StepKind

@@ -1,4 +1,4 @@
--- What each step makes of the view of the seat that makes it.
+-- How each step changes the view of the seat that makes it.
 use Rattle.std.specs.Prelude.{◌≡◌, ℕ, ◌+◌, ◌/◌, Bool, true, false, [], ◌∷◌, ◌++◌, replicate, slice_set, slice_index_or, Option, None, Some, is_some, if◌then◌else◌}
 use Rattle.std.specs.Option.{option_map}
 use Rattle.atomic_table.specs.Table.{Me, Step}
@@ -16,11 +16,11 @@ use Rattle.kf_words.specs.declared.view.View.TheVariants as seat
 use Rattle.kf_words.specs.Layout.{slot_of, keeps_out, is_drained, has_hide, is_unused, has_linked, one_generation}
 use Rattle.kf_words.specs.Rule.{last_key}
 
--- a seat at the table of words: its view, and the homes that it has taken, of which this table has none
+-- a seat at the table of words: its view, and the homes that it has taken. This table has no homes
 abbrev pub Seated : Type 0
 Seated = Me (Unit {0}) View
 
--- a seat that has seen something of the run of all steps
+-- a seat, together with what it has seen of the run of all steps
 abbrev pub Sighted : Type 0
 Sighted = Me (Unit {0}) Sight
 
@@ -28,7 +28,7 @@ Sighted = Me (Unit {0}) Sight
 abbrev pub plain : Sighted → Seated
 plain me = (me.0.view, me.1)
 
--- the view that is read of a seat which is no caller's: nothing held, and no step made
+-- the view that stands for a seat that is not a caller's: nothing is held, and no step was made
 abbrev pub no_caller : CallerView
 no_caller = record {
   key = record { slot = 0; generation = 0 };
@@ -40,12 +40,12 @@ no_caller = record {
   pinning = None;
 }
 
--- the view of a caller's seat; the Master's seat has that of no caller
+-- the view of a caller's seat; for the Master's seat, the view of no caller
 abbrev pub caller_of : View → CallerView
 caller_of (seat.Caller c) = c
 caller_of (seat.Master m) = no_caller
 
--- the view that is read of a seat which is not the Master's: no slots, holds or loads
+-- the view that stands for a seat that is not the Master's: there are no slots, holds or loads
 abbrev pub no_master : MasterView
 no_master = record {
   limit = 0;
@@ -57,12 +57,12 @@ no_master = record {
   looked = None;
 }
 
--- the view of the Master's seat; a caller's seat has that of no Master
+-- the view of the Master's seat; for a caller's seat, the view of no Master
 abbrev pub master_of : View → MasterView
 master_of (seat.Master m) = m
 master_of (seat.Caller c) = no_master
 
--- one word step more, which found this word
+-- the caller's view after one more word step, which found this word and left the caller in this phase
 abbrev pub after_step : Phase → Bool → ℕ → CallerView → CallerView
 after_step phase undo_due found c = record {
   key = c.key;
@@ -74,24 +74,24 @@ after_step phase undo_due found c = record {
   pinning = c.pinning;
 }
 
--- the caller's view with one try more in its count
+-- the caller's view with one more try in its count
 abbrev pub with_try : CallerView → CallerView
 with_try c = record c { tries = c.tries + 1 }
 
--- a try: the caller runs if the word lets it in, and else has to undo the try
+-- the caller's view after a try: the caller runs if the word lets it in, and otherwise has to undo the try
 abbrev pub after_try : ℕ → CallerView → CallerView
 after_try found c = if keeps_out found then after_step Turned true found
     (with_try c) else after_step Running false found (with_try c)
 
--- the second step of a refused try, which leaves what the first found
+-- the caller's view after the second step of a refused try, which keeps the word that the first step found
 abbrev pub after_undo : CallerView → CallerView
 after_undo c = after_step c.phase false c.found c
 
--- the end of a call
+-- the caller's view after the end of a call
 abbrev pub after_leave : ℕ → CallerView → CallerView
 after_leave found c = after_step Still false found c
 
--- the caller's view after it gave its reference up inside its call
+-- the caller's view after it gave up its reference inside its call
 abbrev pub after_break : ℕ → CallerView → CallerView
 after_break found c = after_step Broken false found c
 
@@ -99,20 +99,20 @@ after_break found c = after_step Broken false found c
 abbrev pub after_restore : ℕ → CallerView → CallerView
 after_restore found c = after_step Restored false found c
 
--- the caller's view after a load of the active word: Drained if it found that drained, and else in its
--- phase of before
+-- the caller's view after a load of the active word: Drained if it found the word drained, and otherwise in
+-- the same phase as before
 abbrev pub after_look : ℕ → CallerView → CallerView
 after_look found c =
     if is_drained found then after_step Drained false found c else after_step c.phase c.undo_due found c
 
--- the caller's view after it set the bit of a hidden key: Hiding if that was clear, and else in its phase
--- of before
+-- the caller's view after it set the bit HIDE: Hiding if the bit was clear, and otherwise in the same phase
+-- as before
 abbrev pub after_hide : ℕ → CallerView → CallerView
 after_hide found c =
     if has_hide found then after_step c.phase c.undo_due found c else after_step Hiding false found c
 
--- the hider's view after a load of the active word: Hidden if nobody uses the node, and else in its phase
--- of before
+-- the hider's view after a load of the active word: Hidden if nobody uses the node, and otherwise in the same
+-- phase as before
 abbrev pub after_look_hidden : ℕ → CallerView → CallerView
 after_look_hidden found c =
     if is_unused found then after_step Hidden false found c else after_step c.phase c.undo_due found c
@@ -121,30 +121,30 @@ after_look_hidden found c =
 abbrev pub after_show : ℕ → CallerView → CallerView
 after_show found c = after_step Still false found c
 
--- the hold of the slot is given back
+-- the caller's view after it released its hold of the slot
 abbrev pub after_release : ℕ → CallerView → CallerView
 after_release found c = after_step Spent false found c
 
--- the caller's view after a load of the hold word: Parted if it found no node linked, and else in its
--- phase of before
+-- the caller's view after a load of the hold word: Parted if it found no node linked, and otherwise in the
+-- same phase as before
 abbrev pub after_part : ℕ → CallerView → CallerView
 after_part found c =
     if has_linked found then after_step c.phase c.undo_due found c else after_step Parted false found c
 
--- the caller's view after a step on the hold word that counts nothing: a load, or an exchange that found
--- another word than it expected
+-- the caller's view after a step that counts nothing: a load, or an exchange that did not find the word that
+-- it expected
 abbrev pub after_miss : ℕ → CallerView → CallerView
 after_miss found c = after_step c.phase c.undo_due found c
 
--- the caller's view after it counted one hold more, which has no seat yet
+-- the caller's view after it counted one more hold of its key, which has no seat yet
 abbrev pub after_count : ℕ → CallerView → CallerView
 after_count found c = record (after_step c.phase c.undo_due found c) { pinning = Some c.key }
 
--- the key that a slot had last, by its hold word
+-- the last key of a slot, by its hold word
 abbrev pub key_in : ℕ → ℕ → Key
 key_in slot word = record { slot = slot; generation = word / one_generation }
 
--- the caller's view after it counted one hold more of the last key of a slot, which has no seat yet
+-- the caller's view after it counted one more hold of the last key of a slot, which has no seat yet
 abbrev pub after_count_at : ℕ → ℕ → CallerView → CallerView
 after_count_at slot found c =
     record (after_step c.phase c.undo_due found c) { pinning = Some (key_in slot found) }
@@ -153,11 +153,11 @@ after_count_at slot found c =
 abbrev pub after_share : CallerView → CallerView
 after_share c = record c { pinning = None }
 
--- the view after a step on the count of sleepers, which is no step on a word that the rule reads: as before
+-- the caller's view after a step on the count of sleepers: as before, since the rule does not read this count
 abbrev pub unmoved : ℕ → CallerView → CallerView
 unmoved found c = c
 
--- what is read of a slot that is not there: no node, and the generation 0
+-- what stands for a slot that is not in the table: no node, and the generation 0
 abbrev pub no_state : SlotState
 no_state = record { generation = 0; marks = None }
 
@@ -165,20 +165,21 @@ no_state = record { generation = 0; marks = None }
 abbrev pub state_at : MasterView → ℕ → SlotState
 state_at m slot = slice_index_or m.slots slot no_state
 
--- the Master's view after a step that leaves its loads standing: the word that its last step stored, or
--- looked at, no longer counts
+-- the Master's view after a step that lets its loads of hold words still count: the active word that it had
+-- stored or looked at no longer counts
 abbrev pub on_active : MasterView → MasterView
 on_active m = record m { fresh = None; looked = None }
 
--- the Master's view after a step on a hold word that is no load: what it loaded before no longer counts
+-- the Master's view after a step, other than a load, on a hold word: nothing that it had loaded, stored or
+-- looked at still counts
 abbrev pub on_hold : MasterView → MasterView
 on_hold m = record m { fresh = None; loads = []; looked = None }
 
--- the slot with the marks of its linked node changed, and its generation as before
+-- the slot's state with the marks of its linked node changed, and its generation as before
 abbrev pub remarked : (NodeFlags → NodeFlags) → SlotState → SlotState
 remarked change state = record { generation = state.generation; marks = option_map change state.marks }
 
--- the node of one slot got other marks
+-- the Master's view after the marks of the node of this slot were changed
 abbrev pub with_marks : (NodeFlags → NodeFlags) → ℕ → MasterView → MasterView
 with_marks change slot m =
     record (on_active m) { slots = slice_set m.slots slot (remarked change (state_at m slot)) }
@@ -191,19 +192,19 @@ activated_marks m = record { activated = true; doomed = m.doomed }
 abbrev pub doomed_marks : NodeFlags → NodeFlags
 doomed_marks m = record { activated = m.activated; doomed = true }
 
--- a load of a hold word
+-- the Master's view after a load of a hold word
 abbrev pub with_load : ℕ → ℕ → MasterView → MasterView
 with_load slot found m = record (on_active m) { loads = m.loads ++ record { slot = slot; word = found } ∷ [] }
 
--- the Master's view after it counted one hold more, which no seat has yet
+-- the Master's view after it counted one more hold, which has no seat yet
 abbrev pub with_pin : ℕ → MasterView → MasterView
 with_pin slot m = record (on_hold m) { pinning = Some slot }
 
--- the Master's view after it took back a hold that no seat had yet
+-- the Master's view after it undid the count of a hold that had no seat yet
 abbrev pub without_pin : ℕ → MasterView → MasterView
 without_pin slot m = record (on_hold m) { pinning = None }
 
--- the hold goes to a new seat
+-- the Master's view after the hold that it had counted went to a new seat
 abbrev pub after_split : MasterView → MasterView
 after_split m = record (on_active m) { pinning = None }
 
@@ -219,7 +220,7 @@ new_hold key = record {
   pinning = None;
 }
 
--- the view of a seat that holds nothing: it came to this key, and gave its hold back at once
+-- the view of a seat that holds nothing: it came to this key, and released its hold at once
 abbrev pub spent_hold : Key → CallerView
 spent_hold key = record {
   key = key;
@@ -231,22 +232,22 @@ spent_hold key = record {
   pinning = None;
 }
 
--- the view of the seat that a split makes of the hold that a caller counted
+-- the view of the new seat that gets the hold of this key that a caller counted
 abbrev pub hold_on : Option Key → CallerView
 hold_on None = no_caller
 hold_on (Some key) = new_hold key
 
--- the view of the seat that a split makes
+-- the view of the new seat that gets the hold that the Master counted in this slot
 abbrev pub hold_for : MasterView → Option ℕ → CallerView
 hold_for m None = no_caller
 hold_for m (Some slot) = new_hold (last_key slot (state_at m slot))
 
--- the Master's view after it stored a new active word in this slot, in which a node is to be born
+-- the Master's view after it stored a new active word in this slot, in which a node is about to be born
 abbrev pub after_store : ℕ → MasterView → MasterView
 after_store slot m = record (on_active m) { fresh = Some slot }
 
--- the Master's view after a birth in this slot: a fresh node of the next generation, and the loads that
--- the birth ends are kept apart
+-- the Master's view after a birth in this slot: the slot has a fresh node of the next generation, and the
+-- loads that counted until then are kept separately
 abbrev pub with_birth : ℕ → MasterView → MasterView
 with_birth slot m = record (on_hold m) {
   slots = slice_set m.slots slot
@@ -254,7 +255,7 @@ with_birth slot m = record (on_hold m) {
   at_birth = m.loads;
 }
 
--- the load of an active word before an unlink
+-- the Master's view after a load of an active word
 abbrev pub with_look : ℕ → ℕ → MasterView → MasterView
 with_look slot found m = record (on_active m) { looked = Some (record { slot = slot; word = found }) }
 
@@ -265,7 +266,7 @@ without_node slot m = record (on_hold m) {
       (record { generation = (state_at m slot).generation; marks = None });
 }
 
--- a step that does not read what it finds
+-- how a step changes the Master's view if this does not depend on the word that the step finds
 abbrev pub unread : (ℕ → MasterView → MasterView) → ℕ → ℕ → MasterView → MasterView
 unread after slot found m = after slot m
 
@@ -273,30 +274,30 @@ unread after slot found m = after slot m
 abbrev pub kept : ℕ → ℕ → MasterView → MasterView
 kept slot found m = m
 
--- what a step says to its caller: the view is that of before, changed in this way
+-- what a step says to its caller: the new view is the old view, changed in this way
 abbrev pub CallerBecomes : (ℕ → CallerView → CallerView) → Step (Unit {0}) → Seated → ℕ → Seated → Type 0
 CallerBecomes after st me found me' = me' ≡ (seat.Caller (after found (caller_of me.0)), me.1)
 
--- a hidden key is shown again by the step that finds its bit
+-- what the step that shows a hidden key again says: the new view, and that it found the bit HIDE set
 abbrev pub ShowsKey : Step (Unit {0}) → Seated → ℕ → Seated → Type 0
 ShowsKey st me found me' = CallerBecomes after_show st me found me' × (has_hide found ≡ true)
 
--- what a step says to the Master: the view is that of before, changed in this way at the slot of the word
+-- what a step says to the Master: the new view is the old view, changed in this way at the slot of the word
 abbrev pub MasterBecomes : (ℕ → ℕ → MasterView → MasterView) → Step (Unit {0}) → Seated → ℕ → Seated → Type 0
 MasterBecomes after st me found me' =
     me' ≡ (seat.Master (after (slot_of st.word) found (master_of me.0)), me.1)
 
--- a step of the Master on the word that this index has of some slot
+-- a step of the Master that is on the word that this index gives for some slot, and says this
 abbrev pub On : (ℕ → ℕ) → (Step (Unit {0}) → Seated → ℕ → Seated → Type 0) → Step (Unit {0}) → Seated → ℕ
     → Seated → Type 0
 On index tells st me found me' = (st.word ≡ index (slot_of st.word)) × tells st me found me'
 
--- a load of a hold word says the last generation, and whether a node is linked
+-- the hold word that a load found shows the last generation of this slot, and whether a node is linked there
 abbrev pub TellsSlot : MasterView → ℕ → ℕ → Type 0
 TellsSlot m slot found = (found / one_generation ≡ (state_at m slot).generation)
     × (has_linked found ≡ is_some (state_at m slot).marks)
 
--- what the Master's load of a hold word says: its view after it, and what the word says of the slot
+-- what the Master's load of a hold word says: the view after it, and what the word says about the slot
 abbrev pub LoadsHold : Step (Unit {0}) → Seated → ℕ → Seated → Type 0
 LoadsHold st me found me' =
     MasterBecomes with_load st me found me' × TellsSlot (master_of me.0) (slot_of st.word) found

@@ -31,7 +31,7 @@ abbrev pub master_in : List View → MasterView
 master_in [] = no_master
 master_in (v ∷ vs) = master_of v
 
--- the views of the callers, which have all seats but the first
+-- the views of the callers, which have all seats except the first
 abbrev pub callers_in : List View → List CallerView
 callers_in [] = []
 callers_in (v ∷ vs) = map caller_of vs
@@ -40,48 +40,50 @@ callers_in (v ∷ vs) = map caller_of vs
 abbrev pub world : Table → BareWorld
 world t = bare_world (master_in t.views) (callers_in t.views)
 
--- the word with k added, which wraps round in 64 bits
+-- the word with k added, modulo 2^64
 abbrev pub plus : ℕ → ℕ → ℕ
 plus k n = (n + k) % 2 ^ 64
 
--- the word with k taken off, which wraps round in 64 bits
+-- the word with k subtracted, modulo 2^64
 abbrev pub minus : ℕ → ℕ → ℕ
 minus k n = (n + (2 ^ 64 - k)) % 2 ^ 64
 
--- the word as it was, which is all that a load makes of it
+-- the word as it was: a load does not change it
 abbrev pub same : ℕ → ℕ
 same n = n
 
--- the bit of a hidden key set, clear before or not
+-- the word with the bit HIDE set, whether or not it was set before
 abbrev pub with_hide : ℕ → ℕ
 with_hide n = bit_or n hide
 
--- one seat makes the word f of what it was, and its view becomes this. Nothing else changes
+-- the seat at this place, which had the first view, changes this word by f, and has the second view
+-- afterwards. Nothing else changes
 pub record Plays (t : Table) (place word : ℕ) (f : ℕ → ℕ) (before after : View) (t' : Table) : Type 0 where
   pub there : get_elem? t.views place ≡ some before
   pub fits : slice_index t.words word < 18446744073709551616
   pub becomes : t' ≡ stepped t word (f (slice_index t.words word)) place [] after keeps
 
--- the caller of this number sits behind the Master
+-- the caller of this number has this view. The seats of callers come after that of the Master
 abbrev pub IsSeated : Table → ℕ → CallerView → Type 0
 IsSeated t j c = get_elem? t.views (suc j) ≡ some (seat.Caller c)
 
--- a step of the caller of this number on a word of its slot, if its own view allows it; what it finds goes
--- into its view
+-- a step of the caller of this number on a word of its slot, if its own view allows it. The word that the
+-- step finds goes into the view
 abbrev pub CallerPlays : (ℕ → CallerView → CallerView) → (CallerView → Type 0) → (ℕ → ℕ) → (ℕ → ℕ) → Table → ℕ
     → Table → Type 0
 CallerPlays after May index f t j t' = (c : CallerView) × May c
     × Plays t (suc j) (index c.key.slot) f (seat.Caller c)
     (seat.Caller (after (slice_index t.words (index c.key.slot)) c)) t'
 
--- a step of the Master on a word of this slot, if its own view allows it; what it finds goes into its view
+-- a step of the Master on a word of this slot, if its own view allows it. The word that the step finds goes
+-- into the view
 abbrev pub MasterPlays : (ℕ → ℕ → MasterView → MasterView) → (MasterView → Type 0) → (ℕ → ℕ) → (ℕ → ℕ) → Table
     → ℕ → Table → Type 0
 MasterPlays after May index f t slot t' = (m : MasterView) × May m
     × Plays t 0 (index slot) f (seat.Master m)
     (seat.Master (after slot (slice_index t.words (index slot)) m)) t'
 
--- the pinned hold of this slot goes to a new seat, behind all others
+-- the pinned hold of this slot goes to a new seat, which comes after all others
 abbrev pub MasterSplits : Table → ℕ → Table → Type 0
 MasterSplits t slot t' = (m : MasterView)
     × (get_elem? t.views 0 ≡ some (seat.Master m)) × (slot < length m.slots) × (m.pinning ≡ Some slot)
@@ -95,26 +97,27 @@ MasterSplits t slot t' = (m : MasterView)
 abbrev pub HasUndoDue : CallerView → Type 0
 HasUndoDue c = (c.phase ≡ Turned) × (c.undo_due ≡ true)
 
--- the caller may give its hold back
+-- the caller may release its hold: it is in a phase that allows this, and has no try to undo
 abbrev pub MayRelease : CallerView → Type 0
 MayRelease c = (may_release c.phase ≡ true) × (c.undo_due ≡ false)
 
--- the caller may count one hold more: none that it counted waits for a seat, and its slot's hold word has a
--- spare place
+-- the caller may count one more hold of its key: it is at rest, no hold that it counted waits for a seat, and
+-- its slot's hold word has a spare place
 abbrev pub MayCount : Table → CallerView → Type 0
 MayCount t c = IsAtRest c × (c.pinning ≡ None)
     × HasSpare (master_in t.views).limit (slice_index t.words (hold_index c.key.slot))
 
--- the hold of its key that the caller counted waits for its seat
+-- the caller is at rest, and the hold of its key that it counted waits for its seat
 abbrev pub MayShare : CallerView → Type 0
 MayShare c = IsAtRest c × (c.pinning ≡ Some c.key)
 
--- the caller may count one hold more in the hold word of any slot that has a linked node and a spare place
+-- the caller may count one more hold in the hold word of this slot. It is at rest, no hold that it counted
+-- waits for a seat, and the slot has a linked node and a spare place
 abbrev pub MayCountAt : Table → ℕ → CallerView → Type 0
 MayCountAt t slot c = IsAtRest c × (c.pinning ≡ None)
     × MayPinAt (master_in t.views).limit (slice_index t.words (hold_index slot))
 
--- the hold that a caller counted goes to a new seat of its key, behind all others
+-- the hold that a caller counted of its key goes to a new seat, which comes after all others
 abbrev pub CallerShares : Table → ℕ → Table → Type 0
 CallerShares t j t' = (c : CallerView) × MayShare c × IsSeated t j c
     × (t' ≡ record {
@@ -123,20 +126,21 @@ CallerShares t j t' = (c : CallerView) × MayShare c × IsSeated t j c
       views = slice_set t.views (suc j) (seat.Caller (after_share c)) ++ seat.Caller (new_hold c.key) ∷ [];
     })
 
--- a step of the caller of this number on the hold word of any slot, if its own view allows it; what it
--- finds goes into its view
+-- a step of the caller of this number on the hold word of any slot, if its own view allows it. The word that
+-- the step finds goes into the view
 abbrev pub CallerPlaysAt : ℕ → (ℕ → CallerView → CallerView) → (CallerView → Type 0) → (ℕ → ℕ) → Table → ℕ
     → Table → Type 0
 CallerPlaysAt slot after May f t j t' = (c : CallerView) × May c
     × Plays t (suc j) (hold_index slot) f (seat.Caller c)
     (seat.Caller (after (slice_index t.words (hold_index slot)) c)) t'
 
--- a load by the caller of this number of any word
+-- a load of any word by the caller of this number, which is at rest
 abbrev pub CallerLoads : ℕ → Table → ℕ → Table → Type 0
 CallerLoads word t j t' = (c : CallerView) × IsAtRest c
     × Plays t (suc j) word same (seat.Caller c) (seat.Caller (after_miss (slice_index t.words word) c)) t'
 
--- the hold that a caller counted, of whatever key, goes to a new seat of that key, behind all others
+-- the hold that a caller counted, of whatever key, goes to a new seat of that key, which comes after all
+-- others
 abbrev pub CallerHandsOn : Table → ℕ → Table → Type 0
 CallerHandsOn t j t' = (c : CallerView) × (key : Key) × IsAtRest c × (c.pinning ≡ Some key) × IsSeated t j c
     × (t' ≡ record {
@@ -149,20 +153,20 @@ CallerHandsOn t j t' = (c : CallerView) × (key : Key) × IsAtRest c × (c.pinni
 abbrev pub IsAt : ℕ → CallerView → Type 0
 IsAt slot c = c.key.slot ≡ slot
 
--- a caller of this slot holds it
+-- the caller of this number has this slot, and holds it
 abbrev pub HoldsSlot : Table → ℕ → ℕ → Type 0
 HoldsSlot t slot j = (c : CallerView) × IsSeated t j c × (c.key.slot ≡ slot) × (c.phase ≢ Spent)
 
--- a caller that was drained on the linked node of this slot
+-- the caller of this number is drained on the linked node of this slot
 abbrev pub IsDrainedOn : Table → ℕ → ℕ → Type 0
 IsDrainedOn t slot j = (c : CallerView) × IsSeated t j c × (c.key.slot ≡ slot) × (c.phase ≡ Drained)
     × (is_some (marks_of (master_in t.views) c.key) ≡ true)
 
--- a load that still counts found room in this slot, and no hold waits for its seat
+-- a load that still counts found room in this slot, and no hold that the Master counted waits for its seat
 abbrev pub SeesRoom : ℕ → MasterView → Type 0
 SeesRoom slot m = (slot < length m.slots) × (m.pinning ≡ None) × FoundRoom m slot
 
--- a hold of this slot is counted, and has no seat yet
+-- the Master counted a hold of this slot, which has no seat yet
 abbrev pub HasPin : ℕ → MasterView → Type 0
 HasPin slot m = (slot < length m.slots) × (m.pinning ≡ Some slot)
 
@@ -170,12 +174,12 @@ HasPin slot m = (slot < length m.slots) × (m.pinning ≡ Some slot)
 abbrev pub SeesFree : ℕ → MasterView → Type 0
 SeesFree slot m = (slot < length m.slots) × FoundFree m slot
 
--- the Master's last step stored a new active word in this slot
+-- the Master has just stored a new active word in this slot
 abbrev pub HasFresh : ℕ → MasterView → Type 0
 HasFresh slot m = (slot < length m.slots) × (m.fresh ≡ Some slot)
 
--- a word of the node that is to be born in this slot may be put: the new active word is stored, and nobody is
--- there
+-- one of the five words of a node, the one at this place, may be stored for the node that is about to be born
+-- in this slot. The Master has just stored a new active word there
 abbrev pub MayNote : ℕ → ℕ → MasterView → Type 0
 MayNote slot place m = HasFresh slot m × (place < 5)
 
@@ -183,7 +187,7 @@ MayNote slot place m = HasFresh slot m × (place < 5)
 abbrev pub IsUndoomed : ℕ → NodeFlags → MasterView → Type 0
 IsUndoomed slot x m = HasMarks m slot x × (x.doomed ≡ false)
 
--- the slot has a node, and the Master's last step found its active word drained
+-- the slot has a node, and the Master has just found its active word drained
 abbrev pub SeesDrained : ℕ → MasterView → Type 0
 SeesDrained slot m = ((x : NodeFlags) × HasMarks m slot x) × HasLooked m slot
 
@@ -191,7 +195,7 @@ SeesDrained slot m = ((x : NodeFlags) × HasMarks m slot x) × HasLooked m slot
 abbrev pub MasterStays : Table → Table → Type 0
 MasterStays t t' = ((m : MasterView) × (get_elem? t.views 0 ≡ some (seat.Master m))) × (t' ≡ t)
 
--- a seat that holds nothing came to this key, behind all others
+-- a seat of this key that holds nothing is added after all others
 abbrev pub Comes : Table → Key → Table → Type 0
 Comes t key t' = t' ≡ record {
   words = t.words;
@@ -199,17 +203,18 @@ Comes t key t' = t' ≡ record {
   views = t.views ++ seat.Caller (spent_hold key) ∷ [];
 }
 
--- a new seat has seen what this caller has, who holds its slot
+-- a new seat of this caller's key, which holds nothing, is added to carry what the caller has seen. The
+-- caller holds its slot
 abbrev pub CallerReports : Table → ℕ → Table → Type 0
 CallerReports t j t' = (c : CallerView) × (c.phase ≢ Spent) × IsSeated t j c × Comes t c.key t'
 
--- a new seat, of the root's key, has seen what the Master has
+-- a new seat of the root's key, which holds nothing, is added to carry what the Master has seen
 abbrev pub MasterAnswers : Table → Table → Type 0
 MasterAnswers t t' = (m : MasterView) × (get_elem? t.views 0 ≡ some (seat.Master m)) × (0 < length m.slots)
     × Comes t (last_key 0 (state_at m 0)) t'
 
--- one atomic step of the table, by any seat: what it makes of the view, what the view must say before it,
--- which of the slot's words it is on, and what it makes of that
+-- one atomic step of the table, by any seat. For each kind of step, this says how it changes the seat's view,
+-- what the view must say before it, which of the slot's words it is on, and how it changes that word
 abbrev pub WordStep : Table → StepKind → Table → Type 0
 WordStep t (tries j) t' = CallerPlays after_try IsAtRest active_index (plus 1) t j t'
 WordStep t (undoes j) t' = CallerPlays (λ _. after_undo) HasUndoDue active_index (minus 1) t j t'
@@ -259,7 +264,7 @@ WordStep t (stores_node slot place n) t' =
     MasterPlays kept (MayNote slot place) (node_index place) (λ _. n) t slot t'
 WordStep t (reads_node slot place j) t' = CallerLoads (node_index place slot) t j t'
 
--- these steps, one after another
+-- these steps, one after another, lead from the first table to the second
 abbrev pub WordRun : Table → List StepKind → Table → Type 0
 WordRun t [] t' = t' ≡ t
 WordRun t (kind ∷ kinds) t' = (between : Table) × WordStep t kind between × WordRun between kinds t'
@@ -269,15 +274,15 @@ abbrev pub opened_table : ℕ → ℕ → ℕ → Table
 opened_table limit slots start =
     table_opening (opening_words slots start) [] (seat.Master (opened limit slots start))
 
--- the slot of a hold that gets its seat has a linked node, or a caller who holds it
+-- a hold of this slot may get its seat: a node is linked there, or a caller holds the slot
 abbrev pub IsPinnable : Table → ℕ → Type 0
 IsPinnable t slot =
     (is_some (state_at (master_in t.views) slot).marks ≡ true) ⊎ ((j : ℕ) × HoldsSlot t slot j)
 
--- The Master needs a reason for three of its steps. A hold that it counted gets a seat only if the slot's
--- node is linked, or if a caller holds the slot. It takes a node out only while a caller is drained on it.
--- A seat of the root's key that holds nothing comes only if the root is linked or held. No other step needs
--- a reason
+-- the Master has a reason for this step, if the step needs one. Three of its steps do. A hold that it counted
+-- gets a seat only if the slot's node is linked, or a caller holds the slot. A node is taken out only while a
+-- caller is drained on it. A seat of the root's key that holds nothing is added only if the root is linked or
+-- held. No other step needs a reason
 abbrev pub IsAttended : Table → StepKind → Type 0
 IsAttended t (tries j) = Unit {0}
 IsAttended t (undoes j) = Unit {0}
@@ -316,7 +321,7 @@ IsAttended t (hands_on j) = Unit {0}
 IsAttended t (stores_node slot place n) = Unit {0}
 IsAttended t (reads_node slot place j) = Unit {0}
 
--- a run in which each step of the Master was attended
+-- a run of these steps in which each step is attended
 abbrev pub AttendedRun : Table → List StepKind → Table → Type 0
 AttendedRun t [] t' = t' ≡ t
 AttendedRun t (kind ∷ kinds) t' = (between : Table) × IsAttended t kind × WordStep t kind between

@@ -16,8 +16,9 @@ abbrev pub OnlySleepersAwake : ℕ → List StepKind → Type 0
 OnlySleepersAwake slot kinds = (before later : List StepKind) (j : ℕ)
     → kinds ≡ before ++ awakes slot j ∷ later → IsAsleep slot j before
 
--- in each run from the opening, of fewer than 2^64 steps, in which callers take themselves off the count only
--- while they sleep: a load of the count finds a number above 0 as long as a caller sleeps at the slot
+-- take a run from an opening with at least one slot, and with at most 65535 holds of a slot. The run has
+-- fewer than 2^64 steps, and callers take themselves off the count only while they sleep. As long as a caller
+-- sleeps at the slot, a load of the count finds a number above 0
 abbrev pub SleepersAreFound : Type 0
 SleepersAreFound = (o : Opening) → 1 ≤ o.slots → o.holds ≤ 65535
     → (kinds : List StepKind) (t u : Table) (slot sleeper loader : ℕ) → WordRun (opened_as o) kinds t

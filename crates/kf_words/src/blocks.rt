@@ -1,5 +1,5 @@
-//! Blocks of slots, and groups of blocks: the search for a free slot skips those in which each slot has a
-//! node.
+//! Blocks of slots, and groups of blocks. The search for a free slot skips a block or a group if each of its
+//! slots is known to have a node.
 ghost use Rattle.std.specs.Prelude.{ℕ, ◌≡◌, ◌≢◌, ◌<◌, ◌≤◌, ◌/◌};
 ghost use Rattle.std.specs.Int.{bit_at};
 ghost use Rattle.kf_words.specs.Nodes.{is_unlinked};
@@ -9,7 +9,7 @@ use kf_core::{SlotList, SlotState, lowest_bit, other_bits, with_low_bits};
 /// The number of slots in a block, and of bits in its word.
 pub(crate) const BLOCK: u32 = 64;
 
-/// The number of blocks in a group. A table with the most slots has this many groups.
+/// The number of blocks in a group. A table with the greatest number of slots has this many groups, too.
 pub(crate) const GROUP: usize = 128;
 
 /// The block of a slot.
@@ -26,7 +26,8 @@ pub(crate) fn group_of(slot: u32) -> usize
     block_of(slot) / GROUP
 }
 
-/// Whether a slot of the table has no linked node. It is false for the root's slot.
+/// Whether a slot of the table has no linked node. It is false for the root's slot, and if the table has no
+/// such slot.
 pub(crate) fn is_unlinked(slots: &SlotList<SlotState>, slot: u32) -> bool
     ensures { result ≡ is_unlinked slots.now slot }
 {
@@ -48,7 +49,7 @@ pub(crate) fn with_bit(word: u64, place: u32) -> u64
     word | (1 << place)
 }
 
-/// The first place from this one up at which the word's bit is not set. It is 64 if there is none.
+/// The first place, from this one up, at which the word's bit is not set. It is 64 if there is none.
 ///
 /// Condition: the place to begin at is at most 64.
 pub(crate) fn first_unset(word: u64, from: u32) -> u32

@@ -10,7 +10,8 @@ use crate::seat::CallerSeat;
 use kf_core::{Key, Node, Phase};
 use std::marker::Model;
 
-/// Has an active reference, or gave it up inside its callback. It must be spent, by `leave`.
+/// A hold that also has an active reference, or gave it up inside its callback. It must be passed to `leave`
+/// or `leave_quiet`.
 pub struct Call {
     pub(crate) seat: CallerSeat,
     pub(crate) phase: Phase,
@@ -43,7 +44,7 @@ impl Call {
         self.seat.node()
     }
 
-    /// Running, Broken or Restored.
+    /// The phase of the call: Running, Broken or Restored.
     pub fn phase(&self) -> Phase
         ensures value { result ≡ self.now.phase }
         ensures in_call { is_in_call result ≡ true }
@@ -51,7 +52,7 @@ impl Call {
         self.phase
     }
 
-    /// Gives the reference back (`kernfs_put_active`), in one word step.
+    /// Drops the reference (`kernfs_put_active`), in one word step, and returns the hold.
     ///
     /// Condition: the call is Running or Restored.
     pub fn leave(self) -> Hold
@@ -66,7 +67,7 @@ impl Call {
         Hold { seat }
     }
 
-    /// Gives the reference up inside the callback (`kernfs_break_active_protection`), in one word step.
+    /// Gives up the reference inside the callback (`kernfs_break_active_protection`), in one word step.
     ///
     /// Condition: the call is Running.
     pub fn break_protection(&mut self)
@@ -79,8 +80,8 @@ impl Call {
         due.spend(&mut self.seat);
     }
 
-    /// Takes a reference again, whatever became of the node (`kernfs_unbreak_active_protection`), in one word
-    /// step.
+    /// Takes a reference again, in one word step, whatever has become of the node
+    /// (`kernfs_unbreak_active_protection`).
     ///
     /// Condition: the call is Broken.
     pub fn restore(&mut self)

@@ -1,4 +1,4 @@
-//! How many hold and use a node, as the Master loads it from the words.
+//! The numbers of holds and users of a node, as the Master loads them from the words.
 ghost use Rattle.std.specs.Prelude.{◌≡◌, None, is_some, IfSome};
 ghost use Rattle.kf_words.specs.Made.{WereLoaded};
 ghost use Rattle.kf_words.specs.Nodes.{KeepsNodes, marks_of, sight_in};
@@ -7,8 +7,8 @@ use crate::layout::{holds_in, users_in};
 use crate::master::Master;
 use kf_core::Key;
 
-/// How many holds a slot has, and how many users its node. A refused try counts as a user until it is taken
-/// back.
+/// How many holds a slot has, and how many users its node has. A refused try counts as a user until it is
+/// undone.
 #[derive(Clone, Copy)]
 pub struct Counts {
     pub holds: u32,
@@ -16,8 +16,8 @@ pub struct Counts {
 }
 
 impl Master {
-    /// How many hold and use a linked node, by one load of each of the two words of its slot. Returns None,
-    /// with no word step, if the node is not linked.
+    /// Counts the holds and the users of a linked node, by one load of each of the two words of its slot. If
+    /// the node is not linked, it returns None and makes no word step.
     pub fn counts(&mut self, key: Key) -> Option<Counts>
         ensures kept { KeepsNodes self.old self.new }
         ensures linked { is_some result ≡ is_some (marks_of self.old.view key) }

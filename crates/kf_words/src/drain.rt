@@ -11,10 +11,10 @@ use crate::receipt::Drained;
 use std::sync::Wait;
 
 impl Drained {
-    /// Sleeps while the drained node is in use again. Two things can use it: a caller that had broken its
-    /// protection restores it, or a try was refused and its count is not yet taken back. It wakes when the
-    /// last user leaves, or after a millisecond if there is none, and may wake earlier. It makes no step
-    /// on the slot's active word or hold word.
+    /// Sleeps while a node that was seen drained is in use again. There are two ways in which this happens: a
+    /// caller that had broken its protection restores it, or a try was refused and is not yet undone. The
+    /// sleep ends when the last user leaves, or after a millisecond if there is no user. It may end earlier.
+    /// This function makes no step on the slot's active word or hold word.
     ///
     /// Context: sleeps; takes no lock.
     pub fn rest<R: Wait>(&mut self, rt: &R)
@@ -26,17 +26,17 @@ impl Drained {
     }
 }
 
-/// Waits until the node is doomed and nobody has a reference to it (`kernfs_drain`). It may never return.
-/// All its steps on the slot's active word and hold word are looks at the active word. It rests after each
-/// look but the last.
+/// Waits until the node is doomed and nobody has a reference to it (`kernfs_drain`). It may never return. Its
+/// only steps on the slot's active word and hold word are looks at the active word. After each look except
+/// the last, it rests.
 ///
-/// Why no callback is missed: a caller counts itself by the very step that looks for the mark, so its step
-/// and the mark come one after the other in the order of one word. A try that comes first is counted in the
-/// word that the mark leaves, and no later word is drained before it has left; one that comes after finds the
-/// bias and fails. Its count stands for a moment all the same, so a look may come too early, and never too
-/// late.
+/// No callback is missed, because a caller counts itself in the same step that looks for the mark. So the try
+/// and the mark are steps on one word, and one of them comes first. If the try comes first, its caller stays
+/// counted until it leaves or gives up its reference, and no word is drained before that. If the mark comes
+/// first, the try finds BIAS and fails. The failed try still counts for a moment, so a look may see a user
+/// that is not a call. But no look misses a call that has a reference.
 ///
-/// Context: sleeps; takes no lock, and its caller must not have the tree's.
+/// Context: sleeps; takes no lock, and the caller must not hold the tree's lock.
 pub fn wait_drained<R: Wait>(rt: &R, hold: Hold) -> Drained
     ensures same { IsSameSeat hold result }
     ensures drained { result.phase ≡ phase_of.Drained }
@@ -55,12 +55,12 @@ pub fn wait_drained<R: Wait>(rt: &R, hold: Hold) -> Drained
     Drained { seat }
 }
 
-/// Looks once, in one word step, whether the node is doomed and nobody has a reference to it, and does not
-/// wait. It returns the hold if somebody still uses the node, also while a refused try is not yet taken back.
-/// What it says of a drained node is what `wait_drained` says, so a remover can look once at each of its
-/// nodes, and wait only for those that are in use.
+/// Checks once, in one word step and without waiting, whether the node is doomed and nobody has a reference
+/// to it. If so, it returns a `Drained`, and otherwise the hold. A refused try that is not yet undone counts
+/// as a reference here. For a drained node, the contract says the same as that of `wait_drained`. So a
+/// remover can check each of its nodes once, and wait only for those that are in use.
 ///
-/// Context: neither sleeps nor takes a lock, so its caller may have the tree's.
+/// Context: neither sleeps nor takes a lock, so the caller may hold the tree's lock.
 pub fn try_drained(hold: Hold) -> Result<Drained, Hold>
     ensures same { MatchResult result (λ saw. IsSameSeat hold saw) (λ back. IsSameSeat hold back) }
     ensures drained { IfOk result (λ saw. saw.phase ≡ phase_of.Drained) }

@@ -12,7 +12,8 @@ use kf_core::Key;
 use std::marker::Model;
 use std::sync::Wait;
 
-/// Hides its key, on which calls may still run. It must be spent, by `look` or `wait_hidden`.
+/// A token that hides its key, but calls of the node may still run. It must be passed to `look` or
+/// `wait_hidden`.
 pub struct Hiding {
     pub(crate) seat: CallerSeat,
 }
@@ -28,8 +29,9 @@ impl Model for Hiding {
     ghost invariant = { λ h. IsInPhase phase_of.Hiding (view_of h.seat) };
 }
 
-/// Hides its key, and saw that nobody had a reference to the node. While it is out no call of the node is
-/// Running: a callback that still runs there gave its protection up before. It must be spent, by `show`.
+/// A token that hides its key, and whose caller saw that nobody had a reference to the node. As long as it
+/// exists, no call of the node is Running. A callback that still runs there gave up its protection before
+/// that. The token must be passed to `show`.
 pub struct Hidden {
     pub(crate) seat: CallerSeat,
 }
@@ -54,8 +56,8 @@ impl Hiding {
         self.seat.key()
     }
 
-    /// Looks, in one word step, whether nobody uses the node: there is no reference, and no refused try that
-    /// is not yet taken back. It returns itself if somebody does.
+    /// Checks, in one word step, whether nobody uses the node: there is no reference, and no refused try that
+    /// is not yet undone. If so, it returns a `Hidden`, and otherwise the `Hiding`.
     pub fn look(self) -> Result<Hidden, Hiding>
         ensures same { MatchResult result (λ saw. IsSameSeat self saw) (λ back. IsSameSeat self back) }
         ensures hidden { IfOk result (λ saw. SawUnused self saw) }
@@ -83,9 +85,9 @@ impl Hidden {
         self.seat.key()
     }
 
-    /// Shows the key again, in one word step: the bit of the hidden key goes, and all other bits stay as they
-    /// are. A tree calls this while it is locked. Without that lock the key is shown to every caller all the
-    /// same, but a file that the tree has hidden stays hidden there.
+    /// Shows the key again, in one word step. This step clears the bit HIDE, and leaves all other bits as
+    /// they are. A tree calls this while it is locked. If it is called without that lock, the key is shown to
+    /// every caller all the same, but a file that the tree has hidden stays hidden in the tree.
     pub fn show(self) -> Hold
         ensures same { IsSameSeat self result }
         ensures hold { WasShown self result }
@@ -97,11 +99,11 @@ impl Hidden {
     }
 }
 
-/// Waits until nobody has a reference to the node whose key it hides. It may never return. All its steps on
-/// the slot's active word and hold word are looks at the active word. It sleeps after each look but the
-/// last.
+/// Waits until nobody has a reference to the node whose key is hidden. It may never return. Its only steps on
+/// the slot's active word and hold word are looks at the active word. After each look except the last, it
+/// sleeps.
 ///
-/// Context: sleeps; takes no lock, and its caller must not have the tree's.
+/// Context: sleeps; takes no lock, and the caller must not hold the tree's lock.
 pub fn wait_hidden<R: Wait>(rt: &R, hiding: Hiding) -> Hidden
     ensures same { IsSameSeat hiding result }
     ensures hidden { result.phase ≡ phase_of.Hidden }

@@ -16,8 +16,9 @@ use crate::seat::{CallerSeat, release_seat};
 use kf_core::{Key, Node, Refusal};
 use std::marker::Model;
 
-/// Holds the slot of a node, with no reference to it. While it is out the slot is not given again.
-/// It must be spent: by `enter`, `look`, `hide`, `wait_drained` or `release`.
+/// Keeps the slot of a node, without an active reference to the node. As long as the hold exists, the slot is
+/// not reused. It cannot be dropped: it must be passed to a function that consumes it, such as `enter`,
+/// `look`, `hide`, `wait_drained` or `release`.
 pub struct Hold {
     pub(crate) seat: CallerSeat,
 }
@@ -48,8 +49,9 @@ impl Hold {
         self.seat.node()
     }
 
-    /// Tries for an active reference (`kernfs_get_active`). It returns the hold if the node was found not
-    /// live, or its key hidden. It takes one word step if it returns a call, and two if it returns the hold.
+    /// Tries to take an active reference (`kernfs_get_active`). If it finds the node not live, for example
+    /// hidden, it returns the hold. It makes one word step if it returns a call, and two if it returns the
+    /// hold.
     pub fn enter(self) -> Result<Call, Hold>
         ensures same { MatchResult result (λ call. IsSameSeat self call) (λ hold. IsSameSeat self hold) }
         ensures call { IfOk result (λ call. Entered self call) }
@@ -70,8 +72,9 @@ impl Hold {
         }
     }
 
-    /// Looks, in one word step, whether the node is doomed and nobody uses it (one look of `kernfs_drain`).
-    /// It returns the hold if not, also while a refused try is not yet taken back.
+    /// Checks, in one word step, whether the node is doomed and nobody uses it (one look of `kernfs_drain`).
+    /// If so, it returns a `Drained`, and otherwise the hold. A refused try that is not yet undone counts as
+    /// a user.
     pub fn look(self) -> Result<Drained, Hold>
         ensures same { MatchResult result (λ saw. IsSameSeat self saw) (λ hold. IsSameSeat self hold) }
         ensures drained { IfOk result (λ saw. SawDrained self saw) }
@@ -89,13 +92,14 @@ impl Hold {
         }
     }
 
-    /// Hides the key, in one word step: until it is shown again, each try is refused. It returns the hold if
-    /// a caller hides the key already.
+    /// Hides the key, in one word step. Until the key is shown again, each try is refused. If a caller hides
+    /// the key already, the hold is returned.
     ///
-    /// A tree calls this while it is locked, once nothing in it is against the hiding. Without that lock the
-    /// key is hidden from every caller all the same, and `wait_hidden` waits for those that are inside. But
-    /// the step is no note of the history, so the tree still has the file as shown: it stores no command,
-    /// its own `hide` of the file fails with Busy, and its `show` of the token changes only the word.
+    /// A tree calls this while it is locked, once nothing in the tree forbids the hiding. If it is called
+    /// without that lock, the key is hidden from every caller all the same, and `wait_hidden` waits for those
+    /// that are inside. But the step itself adds no note to the history, so the tree then still has the file
+    /// as shown. The tree stores no command, its own `hide` of the file fails with Busy, and its `show` of
+    /// the token changes only the word.
     pub fn hide(self) -> Result<Hiding, Hold>
         ensures same { MatchResult result (λ hiding. IsSameSeat self hiding) (λ hold. IsSameSeat self hold) }
         ensures hiding { IfOk result (λ hiding. WasHidden self hiding) }
@@ -111,13 +115,13 @@ impl Hold {
         }
     }
 
-    /// Another hold of the same key (`kernfs_get`), with no lock of the tree, whatever became of the node
-    /// meanwhile: a slot that is held is not given again. The last place of a slot is not taken: it is for a
-    /// hold that the tree's Master gives.
+    /// Makes another hold of the same key (`kernfs_get`), without taking the tree's lock. The node may have
+    /// left the tree meanwhile, since a slot that is held is not reused. The last place of a slot is not
+    /// taken: it is kept for a hold that the tree's Master gives out.
     ///
-    /// Refusals, in order: TooManyHolds if the slot has as many holds as there may be, or one fewer; Busy
-    /// if other holds came or went at each of 64 tries; NoMemory if the table can have no owner more
-    /// (its `Arc` is at its last count). After each the slot has the holds that it had.
+    /// Refusals, in order: TooManyHolds if the slot already has the greatest number of holds, or one fewer;
+    /// Busy if other holds came or went at each of 64 attempts; NoMemory if the table can have no further
+    /// owner (its `Arc` is at its last count). A refusal leaves the slot's holds as they were.
     pub fn another(&mut self) -> Result<Hold, Refusal>
         ensures same { IsSameSeat self.old self.new }
         ensures stays { StaysAs self.old self.new }
@@ -132,15 +136,16 @@ impl Hold {
         Ok(Hold { seat })
     }
 
-    /// A hold of the node of a key (`kernfs_get`), with no lock of the tree: any hold of the same table makes
-    /// it, by exchanges only on the hold word of the key's slot. The node was linked at the moment when the
-    /// hold was counted. It is then read from the words of the slot, and was still linked after that. The
-    /// last place of a slot is not taken: it is for a hold that the tree's Master gives.
+    /// Makes a hold of a key's node (`kernfs_get`), without taking the tree's lock. Any hold of the same
+    /// table can do this. It counts the new hold by a compare-and-exchange on the hold word of the key's
+    /// slot, and changes no other word. The node was linked at the moment when the hold was counted. The node
+    /// is then read from the words of the slot, and was still linked after that. The last place of a slot is
+    /// not taken: it is kept for a hold that the tree's Master gives out.
     ///
-    /// Refusals, in order: NoEntry if the table has no such slot, or the key's node is no longer linked
-    /// there; TooManyHolds if the slot has as many holds as there may be, or one fewer; Busy if other
-    /// holds came or went at each of 64 tries; NoMemory if the table can have no owner more (its `Arc` is
-    /// at its last count). After each the slot has the holds that it had.
+    /// Refusals, in order: NoEntry if the table has no such slot, or the key's node is not linked there;
+    /// TooManyHolds if the slot already has the greatest number of holds, or one fewer; Busy if other holds
+    /// came or went at each of 64 attempts; NoMemory if the table can have no further owner (its `Arc` is at
+    /// its last count). A refusal leaves the slot's holds as they were.
     pub fn pin(&mut self, key: Key) -> Result<Hold, Refusal>
         ensures same { IsSameSeat self.old self.new }
         ensures stays { StaysAs self.old self.new }
@@ -158,14 +163,14 @@ impl Hold {
         Ok(Hold { seat })
     }
 
-    /// Gives its hold of the slot back (`kernfs_put`), in one word step. Nothing is left of it that a clause
-    /// could speak of: `release_place` says what the step found.
+    /// Releases the hold of the slot (`kernfs_put`), in one word step. The value is gone afterwards, so no
+    /// clause here can speak of it. The contract of `release_place` says what the step found.
     pub fn release(self) {
         self.release_place();
     }
 
-    /// As `release`, and returns whether the slot had as many holds until then as there may be. If so, a
-    /// caller that was refused a hold as one too many may have been waiting for this place.
+    /// Like `release`, and returns whether the slot had the greatest number of holds until then. If so, a
+    /// caller whose request for a hold was refused with TooManyHolds may be waiting for this place.
     pub fn release_place(self) -> bool
         ensures { GavePlaceBack (seat_view self) result }
     {

@@ -1,5 +1,5 @@
-//! A maker of holds, for one thread: it keeps the owners of the table that come back with the holds which are
-//! released to it, and gives them to those that it makes next.
+//! A maker of holds, for one thread. Each hold that is released to it leaves an owner of the table. The maker
+//! keeps these owners, and gives them to the next holds that it makes.
 ghost use Rattle.std.specs.Prelude.{◌≡◌, ◌≢◌, ◌<◌, ◌≤◌, ◌+◌, ◌-◌, true, if◌then◌else◌, is_ok, IfOk, IfErr, MatchResult};
 ghost use Rattle.kf_core.specs.Phases.{is_waiting};
 ghost use Rattle.kf_core.specs.declared.refusal.Refusal.TheVariants as refusal_of;
@@ -14,20 +14,21 @@ use kf_core::{Key, Refusal};
 use std::alloc::Global;
 use std::marker::Model;
 
-/// The most owners that a maker keeps.
+/// The greatest number of owners that a maker keeps.
 const MOST_SPARE: usize = 16;
 
-/// Makes holds by the one that it keeps. Each hold owns the table, and all threads share the count of its
-/// owners. A maker keeps up to 16 owners of the holds that are released to it, and a hold that it makes of
-/// one of them writes nothing to that count. It must be spent, by `end`.
+/// Makes holds for one thread, by means of a hold that it keeps. Each hold owns the table, and all threads
+/// share the count of the table's owners. A maker keeps up to 16 owners, from the holds that are released to
+/// it. If it makes a hold with one of them, that hold writes nothing to the shared count. A maker must be
+/// passed to `end`.
 ///
-/// It also keeps the hold word that its last release left: if the next hold is of the same slot, its first
-/// exchange expects that word. So the exchange is the first step on the slot's cache line, and fetches it for
-/// writing at once. A word that is out of date costs one exchange more.
+/// A maker also keeps the hold word that its last release left. If the next hold is of the same slot, its
+/// first exchange expects that word. So the exchange is the first step on the slot's cache line, and fetches
+/// the line for writing at once. If the word is out of date, that costs one more exchange.
 pub struct Holds {
     pub(crate) by: CallerSeat,
     spare: Vec<Owner>,
-    /// The slot of the last hold that was released, and the hold word that this left.
+    /// The slot of the last hold that was released, and the hold word that the release left.
     last: u32,
     left: u64,
 }
@@ -46,9 +47,9 @@ impl Model for Holds {
 }
 
 impl Holds {
-    /// A maker of holds by this one, with no owner to spare yet.
+    /// Makes a maker that uses this hold, with no spare owner yet.
     ///
-    /// Refusal: NoMemory, and the hold comes back.
+    /// Refusal: NoMemory, and the hold is returned.
     pub fn new(alloc: Global, by: Hold) -> Result<Holds, (Hold, Refusal)>
         ensures made { IfOk result (λ holds. (holds.by ≡ by) × (holds.spare ≡ 0)) }
         ensures refused { IfErr result (λ r. (r.0 ≡ by) × (r.1 ≡ refusal_of.NoMemory)) }
@@ -68,7 +69,7 @@ impl Holds {
         }
     }
 
-    /// The key whose slot its own hold keeps.
+    /// The key whose slot the maker's own hold keeps.
     pub fn key(&self) -> Key
         ensures value { result ≡ self.now.by.key }
         ensures waits { is_waiting self.now.by.phase ≡ true }
@@ -76,7 +77,7 @@ impl Holds {
         self.by.key()
     }
 
-    /// The hold word that the first try at a hold of a key expects.
+    /// The hold word that the first attempt at a hold of this key expects.
     fn guess(&self, key: Key) -> u64
         requires there { HasSlotOf self.now.by key }
     {
@@ -87,11 +88,11 @@ impl Holds {
         }
     }
 
-    /// A hold of the node of a key, as `Hold::pin` makes it. If there is an owner to spare, the hold takes
-    /// that owner. After a refusal there are as many to spare as before.
+    /// Makes a hold of a key's node, like `Hold::pin`. If the maker has a spare owner, the hold takes that
+    /// owner. A refusal leaves the number of spare owners as it was.
     ///
     /// Refusals, in order: NoEntry, TooManyHolds and Busy as in `Hold::pin`; NoMemory as there, but only if
-    /// there is no owner to spare.
+    /// the maker has no spare owner.
     pub fn pin(&mut self, key: Key) -> Result<Hold, Refusal>
         ensures same { IsSameSeat self.old.by self.new.by }
         ensures stays { StaysAs self.old.by self.new.by }
@@ -121,8 +122,8 @@ impl Holds {
         Ok(Hold { seat })
     }
 
-    /// Gives a hold of the same table back, as `Hold::release` does, in one word step, and keeps its owner
-    /// if fewer than 16 are to spare.
+    /// Releases a hold of the same table in one word step, like `Hold::release`, and keeps its owner if there
+    /// are fewer than 16 spare owners.
     ///
     /// Condition: the hold is of the same table.
     pub fn release(&mut self, hold: Hold)
@@ -141,7 +142,7 @@ impl Holds {
         }
     }
 
-    /// Its own hold. The owners that it had to spare go.
+    /// Ends the maker and returns its own hold. The spare owners are dropped.
     pub fn end(self) -> Hold
         ensures { result ≡ self.by }
     {

@@ -3,7 +3,7 @@ use crate::sight::Sight;
 use atomic_table::Join;
 use std::marker::{Brand, PhantomData};
 
-/// What a seat knows, which a call picks.
+/// What a seat knows, as a call picks it.
 pub(crate) trait Knowing {
     ghost use Rattle.kf_words.specs.declared.sight.Sight.{Sight};
 
@@ -16,7 +16,7 @@ impl Knowing for Brand {
     ghost sight = { no_sight };
 }
 
-/// A seat gets what another has seen, and the other stays as it was.
+/// A seat is shown what another seat has seen, and the other seat's knowledge stays as it was.
 pub(crate) struct Hears<E: Knowing> {
     of: PhantomData<E>,
 }
@@ -29,7 +29,8 @@ impl<E: Knowing> Join<Sight> for Hears<E> {
     ghost spent = { E.sight };
 }
 
-/// A seat has from now on seen just what another has, and the other stays as it was.
+/// From now on a seat has seen exactly what another seat has seen, and the other seat's knowledge stays as it
+/// was.
 pub(crate) struct TakesOver<E: Knowing> {
     of: PhantomData<E>,
 }

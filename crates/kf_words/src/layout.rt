@@ -5,12 +5,12 @@ ghost use Rattle.kf_words.specs.Layout.{active_index, hold_index, sleepers_index
 
 use kf_core::NodeFlags;
 
-/// The words of a cache line. Each slot has a line to itself, so that calls of one node never wait for those
-/// of another: its active word, behind that its hold word, then the count of the sleepers at the active
-/// word, three words of its node and two free.
+/// The number of words in a cache line. Each slot has its own line, so that calls of one node never wait for
+/// those of another. A line has the active word, then the hold word, the count of the sleepers at the active
+/// word, three words for the node, and two unused words.
 pub(crate) const LINE_WORDS: usize = 8;
 
-/// In an active word: the node is not at once linked, activated and undoomed, so a try for a reference fails.
+/// In an active word: the node is not linked, or not activated, or doomed, so a try for a reference fails.
 pub(crate) const BIAS: u64 = 0x1_0000_0000;
 
 /// In an active word: the node is doomed.
@@ -19,13 +19,13 @@ pub(crate) const DOOM: u64 = 0x2_0000_0000;
 /// In an active word: the key is hidden, so a try for a reference fails.
 pub(crate) const HIDE: u64 = 0x4_0000_0000;
 
-/// In an active word: the number of its users.
+/// In an active word: the bits that count its users.
 pub(crate) const USERS: u64 = 0xffff_ffff;
 
 /// In a hold word: a node is linked.
 pub(crate) const LINKED: u64 = 0x8000_0000;
 
-/// In a hold word: the number of its holds.
+/// In a hold word: the bits that count its holds.
 pub(crate) const HOLDS: u64 = 0x7fff_ffff;
 
 /// In a hold word: one generation.
@@ -90,7 +90,7 @@ pub(crate) fn keeps_out(word: u64) -> bool
     has_bias(word) || has_hide(word)
 }
 
-/// Whether the node of this active word is doomed, and nobody uses it, hidden or not.
+/// Whether the node of this active word is doomed and nobody uses it, whether or not its key is hidden.
 pub(crate) fn is_drained(word: u64) -> bool
     ensures { result ≡ is_drained word }
 {
@@ -104,7 +104,7 @@ pub(crate) fn is_unused(word: u64) -> bool
     word & USERS == 0
 }
 
-/// Whether the last user to go wakes whoever sleeps at this active word: the node is doomed, and somebody
+/// Whether the last user to leave wakes the sleepers at this active word: the node is doomed, and somebody
 /// uses it.
 pub(crate) fn last_user_wakes(word: u64) -> bool
     ensures { result ≡ last_user_wakes word }
@@ -112,15 +112,16 @@ pub(crate) fn last_user_wakes(word: u64) -> bool
     has_doom(word) && !is_unused(word)
 }
 
-/// Whether a sleeper may wait for this active word: the node is doomed or its key hidden, and nobody uses it.
+/// Whether a sleeper may be waiting for this active word: the node is doomed or its key is hidden, and nobody
+/// uses the node.
 pub(crate) fn wants_wake(word: u64) -> bool
     ensures { result ≡ wants_wake word }
 {
     is_drained(word) || has_hide(word) && is_unused(word)
 }
 
-/// Whether the step that found this active word, and took one user off it, left it so that a sleeper may wait
-/// for it. Nobody sleeps at the word of a live node whose key is shown: most callers are done after one test,
+/// Whether a step that found this active word, and took one user off it, left a word that a sleeper may be
+/// waiting for. Nobody waits for a wake at the word of a live node. So most callers are done after one test,
 /// with the same mask as in `enter`.
 pub(crate) fn ends_a_wait(found: u64) -> bool
     ensures { result ≡ wants_wake (found - 1) }
@@ -136,21 +137,21 @@ pub(crate) fn has_linked(word: u64) -> bool
     word & LINKED != 0
 }
 
-/// Whether the slot of this hold word can be given to a node.
+/// Whether a node can be born in the slot of this hold word.
 pub(crate) fn is_free(word: u64) -> bool
     ensures { IsTrue result ↔ IsFree word }
 {
     word % GENERATION == 0 && word / GENERATION < u32::MAX as u64
 }
 
-/// Whether the slot of this hold word can have one hold more.
+/// Whether the slot of this hold word has room for one more hold.
 pub(crate) fn has_room(word: u64, limit: u32) -> bool
     ensures { IsTrue result ↔ HasRoom limit word }
 {
     word & HOLDS < limit as u64
 }
 
-/// Whether the slot of this hold word has as many holds as there may be.
+/// Whether the slot of this hold word has the greatest number of holds.
 pub(crate) fn is_full(word: u64, limit: u32) -> bool
     ensures { result ≡ is_full limit word }
 {
@@ -171,7 +172,7 @@ pub(crate) fn users_in(word: u64) -> u32
     (word & USERS) as u32
 }
 
-/// Whether the slot of this hold word can have one hold more, and has room then for one of the Master's.
+/// Whether the slot of this hold word has room for one more hold, and then still for one of the Master's.
 pub(crate) fn has_spare(word: u64, limit: u32) -> bool
     ensures { IsTrue result ↔ HasSpare limit word }
 {

@@ -1,17 +1,20 @@
-//! Two words for each slot, which any number of threads change in single atomic steps: the active word
-//! counts active references and tries not yet undone, the hold word counts the holds that keep the slot.
+//! Each slot of a table has two words, which any number of threads change in single atomic steps. The active
+//! word counts the active references, and the refused tries that are not yet undone. The hold word counts the
+//! holds that keep the slot.
 //!
-//! - `Words::new` gives the words and their one `Master`, who bears, activates, dooms and unlinks nodes and
-//!   gives holds (`pin`). It belongs behind a lock; `kf_shared` keeps it there, and most programs begin with
-//!   that crate.
-//! - `Hold` keeps a slot, and `another` makes one hold more of its key, with no Master. `enter` makes a
-//!   `Call` of it, which has an active reference, and `leave` the hold again. After the mark `wait_drained`
-//!   makes `Drained`, and the unlink leads to `Parted`, the receipt. None can be dropped or copied, so what a
-//!   thread may do next is what it has in hand.
-//! - `Hiding` and `Hidden` do the same for a file that is shown again.
+//! - `Words::new` makes the words and their one `Master`. The Master makes (`born`), activates, dooms and
+//!   unlinks nodes, and gives out holds (`pin`). It belongs behind a lock. `kf_shared` keeps it there, and
+//!   most programs begin with that crate.
+//! - A `Hold` keeps a slot. `another` makes one more hold of the same key, without the Master. `enter` turns
+//!   a hold into a `Call`, which has an active reference, and `leave` turns the call back into the hold.
+//!   After the mark, `wait_drained` turns a hold into a receipt, `Drained`. After the unlink, `parted` turns
+//!   a `Drained` into the second receipt, `Parted`. None of these values can be dropped or copied, so the
+//!   value that a thread has in hand says what the thread may do next.
+//! - `Hiding` and `Hidden` are the tokens of a file that is hidden for a while and then shown again.
 //!
-//! A caller that leaves shows that the call has its reference, and one that unlinks shows that the drained
-//! node is of this table. `words_kept` and `words_run` are the laws of every program over these words.
+//! Code that calls `leave` must prove that the call has its reference. Code that calls `unlink` must prove
+//! that the drained node is of this table, and is linked. The laws `words_kept` and `words_run` hold for
+//! every program that uses these words.
 #![tactic(auto)]
 
 mod blocks;

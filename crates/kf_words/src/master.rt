@@ -1,5 +1,5 @@
-//! The Master: the one seat that makes and unmakes nodes. Whoever owns it, as the lock of a tree does, gives
-//! the tree's commands.
+//! The Master: the one seat that makes nodes and takes them out. Only its owner, such as the lock of a tree,
+//! can carry out the tree's commands.
 ghost use Rattle.std.specs.Prelude.{◌≡◌, ◌<◌, ◌≤◌, [], ◌∷◌, ◌++◌, true, false, length, is_some, IfOk, IfErr, OnOk};
 ghost use Rattle.kf_core.specs.declared.refusal.Refusal.TheVariants as refusal_of;
 ghost use Rattle.kf_words.specs.Nodes.{KeepsNodes, KeepsRooms, IsNewHold, IsLastKey, WasPinned, PinRefused, HeldPinRefused, RoomFound, FoundRoom, FoundFull, last_of, marks_of, sight_in};
@@ -18,16 +18,16 @@ use std::marker::Model;
 use std::sync::Arc;
 
 /// The Master of a table of words, with the state of each slot and the node that was born there last. It
-/// keeps both beside the words, so that it can read them without a word step. They take memory only up to the
-/// highest slot that had a node.
+/// keeps both beside the words, so that it can read them without a word step. They use memory only up to the
+/// highest slot that has had a node.
 #[derive(Drop)]
 pub struct Master {
     pub(crate) steps: MasterSeat,
     pub(crate) slots: SlotList<SlotState>,
     pub(crate) nodes: SlotList<Node>,
     pub(crate) holds: u32,
-    /// For each block a word with a bit for each of its slots. If the bit is set, the slot is known to have a
-    /// linked node, or is the root's.
+    /// For each block, a word with a bit for each of its slots. If the bit is set, it is known that the slot
+    /// has a linked node, or is the root's, or is not in the table.
     pub(crate) full: Vec<u64>,
     /// For each group of blocks, whether all bits of its blocks are known to be set.
     pub(crate) full_groups: Vec<bool>,
@@ -61,9 +61,9 @@ impl Master {
         }
     }
 
-    /// The generation that a slot was given last: that of the node there, or of the last node that is gone.
-    /// If the slot has had no node, it is the one that the table was made with. Returns None if the table has
-    /// no such slot. It makes no word step.
+    /// The last generation of a slot: that of the node there, or of the last node that was there. If the slot
+    /// has had no node, it is the generation with which the table was made. Returns None if the table has no
+    /// such slot. It makes no word step.
     pub fn last(&self, slot: u32) -> Option<u32>
         ensures { result ≡ last_of self.now.view slot }
     {
@@ -73,8 +73,8 @@ impl Master {
         }
     }
 
-    /// Whether the slot of a key may have one hold more, in one word step. Returns false, with no step, if
-    /// the table has no such slot.
+    /// Checks, in one word step, whether the slot of a key has room for one more hold. If the table has no
+    /// such slot, it returns false and makes no step.
     pub fn room(&mut self, key: Key) -> bool
         ensures kept { KeepsNodes self.old self.new }
         ensures found { key.slot < length self.old.view.slots →
@@ -93,13 +93,13 @@ impl Master {
         has_room(found, self.holds)
     }
 
-    /// A new hold of a linked node (`kernfs_get`).
+    /// Makes a new hold of a linked node (`kernfs_get`).
     ///
     /// Condition: the node is linked.
     ///
-    /// Refusals, in order: TooManyHolds if the slot has as many holds as there may be; NoMemory if the table
-    /// can have no further owner (its `Arc` is at its last count). After a refusal the slot has the holds
-    /// that it had.
+    /// Refusals, in order: TooManyHolds if the slot already has the greatest number of holds; NoMemory if the
+    /// table can have no further owner (its `Arc` is at its last count). A refusal leaves the slot's holds as
+    /// they were.
     pub fn pin(&mut self, key: Key) -> Result<Hold, Refusal>
         requires { is_some (marks_of self.old.view key) ≡ true }
         ensures kept { KeepsNodes self.old self.new }
@@ -114,12 +114,12 @@ impl Master {
         self.pin_last(key)
     }
 
-    /// A new hold of the key of a call, whether or not its node is still linked.
+    /// Makes a new hold of the key of a call, whether or not the node is still linked.
     ///
     /// Condition: the call is of this table.
     ///
-    /// Refusals, in order: NoEntry if the slot has had a later node, before any word step; TooManyHolds
-    /// and NoMemory as in `pin`.
+    /// Refusals, in order: NoEntry, before any word step, if the slot has had a later node; TooManyHolds and
+    /// NoMemory as in `pin`.
     pub fn pin_held(&mut self, call: &Call) -> Result<Hold, Refusal>
         requires { call.now.table ≡ self.old.table }
         ensures kept { KeepsNodes self.old self.new }
@@ -139,9 +139,9 @@ impl Master {
         }
     }
 
-    /// A new hold of the last key of a slot.
+    /// Makes a new hold of the last key of a slot.
     ///
-    /// Condition: it is that key.
+    /// Condition: the key is the last key of its slot.
     ///
     /// Refusals, in order: TooManyHolds and NoMemory as in `pin`.
     fn pin_last(&mut self, key: Key) -> Result<Hold, Refusal>
@@ -172,8 +172,8 @@ impl Master {
         })
     }
 
-    /// Adds a note to the history: what was done, while whoever has the Master did it. The call picks the
-    /// note by `told`, of which nothing is kept. It is one word step, which changes nothing.
+    /// Adds a note to the history, which says what the owner of the Master has done. The call picks the note
+    /// by `told`, of which nothing is kept. It is one word step, which changes nothing.
     pub fn note<E: Said, T>(&mut self, told: &T)
         ensures table { self.new.table ≡ self.old.table }
         ensures nodes { self.new.nodes ≡ self.old.nodes }
@@ -181,7 +181,7 @@ impl Master {
         ensures made { WasMadeByMaster (notes E.note) (sight_in self.old) (sight_in self.new) }
         ensures history { history_of self.new.seen ≡ history_of self.old.seen ++ E.note ∷ [] }
     {
-        let _ = told; // only the pick reads it
+        let _ = told; // only the pick of the note reads it
         self.steps.note::<E>();
     }
 }

@@ -1,4 +1,4 @@
-//! The kinds of step of the Master on the table of words: what each makes of its view.
+//! The kinds of steps that the Master makes on the table of words, and how each changes the Master's view.
 use crate::note::Said;
 use crate::sight::Sight;
 use atomic_table::{Play, Split};
@@ -16,7 +16,7 @@ impl Play<(), Sight> for LoadsHold {
     ghost then = { MasterMakes hold_index loads_hold LoadsHold };
 }
 
-/// The Master counts one hold more, which has no seat yet.
+/// The Master counts one more hold, which has no seat yet.
 pub(crate) struct PinsHold;
 
 impl Play<(), Sight> for PinsHold {
@@ -28,7 +28,7 @@ impl Play<(), Sight> for PinsHold {
     ghost then = { MasterMakes hold_index pins_hold (MasterBecomes (unread with_pin)) };
 }
 
-/// The Master takes back a hold that has no seat.
+/// The Master undoes the count of a hold that has no seat.
 pub(crate) struct UnpinsHold;
 
 impl Play<(), Sight> for UnpinsHold {
@@ -40,7 +40,7 @@ impl Play<(), Sight> for UnpinsHold {
     ghost then = { MasterMakes hold_index unpins_hold (MasterBecomes (unread without_pin)) };
 }
 
-/// The Master stores the active word of a node that is to be born.
+/// The Master stores the active word of a node that is about to be born.
 pub(crate) struct StoresFresh;
 
 impl Play<(), Sight> for StoresFresh {
@@ -52,7 +52,7 @@ impl Play<(), Sight> for StoresFresh {
     ghost then = { MasterMakes active_index stores_fresh (MasterBecomes (unread after_store)) };
 }
 
-/// The Master puts a word of a node that is to be born.
+/// The Master stores one of the words of a node that is about to be born.
 pub(crate) struct StoresNode;
 
 impl Play<(), Sight> for StoresNode {
@@ -73,7 +73,7 @@ impl Play<(), Sight> for Births {
     ghost then = { MasterMakes hold_index births (MasterBecomes (unread with_birth)) };
 }
 
-/// The Master takes the bias off an active word: the node is activated.
+/// The Master clears the bit BIAS of an active word: the node is activated.
 pub(crate) struct TakesBias;
 
 impl Play<(), Sight> for TakesBias {
@@ -133,7 +133,7 @@ impl<E: Said> Play<(), Sight> for Notes<E> {
     ghost then = { MakesNote E.note };
 }
 
-/// The hold that has no seat yet goes to a new one.
+/// The hold that has no seat yet goes to a new seat.
 pub(crate) struct SplitsHold;
 
 impl Split<Sight> for SplitsHold {
@@ -144,7 +144,7 @@ impl Split<Sight> for SplitsHold {
     ghost right = { given };
 }
 
-/// The Master compares what was passed to it with the run so far, and changes nothing.
+/// The Master compares what it was shown with the run so far, and changes nothing.
 pub(crate) struct Compares;
 
 impl Play<(), Sight> for Compares {
@@ -153,7 +153,7 @@ impl Play<(), Sight> for Compares {
     ghost then = { MakesCompare };
 }
 
-/// A new seat, which holds nothing, has seen what the Master has.
+/// A new seat, which holds nothing, has seen what the Master has seen.
 pub(crate) struct Answers;
 
 impl Split<Sight> for Answers {

@@ -14,7 +14,7 @@ use std::sync::Arc;
 pub(crate) struct MasterSeat {
     pub(crate) table: Arc<WordTable>,
     pub(crate) token: MasterToken,
-    /// The most holds of a slot.
+    /// The greatest number of holds of a slot.
     pub(crate) most: u32,
     ghost of_table: { token.table_id ≡ (arc_value table).shared.table_id },
     ghost a_master: { plain token.me ≡ (seat_of.Master (master_of token.me.0.view), []) },

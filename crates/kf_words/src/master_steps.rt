@@ -60,7 +60,7 @@ impl MasterSeat {
         self.table.shared.load::<LoadsHold>(&mut token.seat, word)
     }
 
-    /// Counts one hold more, which no seat has yet.
+    /// Counts one more hold, which has no seat yet.
     pub(crate) fn pin_hold(&mut self, slot: u32)
         requires slot { slot < length (master_view self.old).slots }
         requires one { (master_view self.old).pinning ≡ None }
@@ -78,7 +78,7 @@ impl MasterSeat {
             .fetch_add::<PinsHold>(&mut token.seat, word, 1);
     }
 
-    /// Takes back a hold that no seat has.
+    /// Undoes the count of a hold that has no seat.
     pub(crate) fn unpin_hold(&mut self, slot: u32)
         requires slot { slot < length (master_view self.old).slots }
         requires one { (master_view self.old).pinning ≡ Some slot }
@@ -93,7 +93,7 @@ impl MasterSeat {
             .fetch_sub::<UnpinsHold>(&mut token.seat, word, 1);
     }
 
-    /// A new seat gets the hold.
+    /// Gives the hold that was counted to a new seat.
     pub(crate) fn give_hold(&mut self, slot: u32) -> Seat<(), Sight>
         requires slot { slot < length (master_view self.old).slots }
         requires one { (master_view self.old).pinning ≡ Some slot }
@@ -128,7 +128,8 @@ impl MasterSeat {
             .store::<StoresFresh>(&mut token.seat, word, BIAS);
     }
 
-    /// Puts a word of the node that is to be born in a slot, whose active word was just stored.
+    /// Stores one of the words of the node that is about to be born in a slot. The slot's new active word
+    /// must have been stored just before.
     fn store_node(&mut self, slot: u32, place: usize, word: u64)
         requires slot { slot < length (master_view self.old).slots }
         requires fresh { (master_view self.old).fresh ≡ Some slot }
@@ -146,7 +147,7 @@ impl MasterSeat {
             .store::<StoresNode>(&mut token.seat, index, word);
     }
 
-    /// Puts the words of the node that is to be born in a slot.
+    /// Stores the words of the node that is about to be born in a slot.
     pub(crate) fn note_node(&mut self, slot: u32, node: Node)
         requires slot { slot < length (master_view self.old).slots }
         requires fresh { (master_view self.old).fresh ≡ Some slot }
@@ -179,7 +180,7 @@ impl MasterSeat {
             .fetch_add::<Births>(&mut token.seat, word, GENERATION + LINKED);
     }
 
-    /// Takes the bias off the active word of a slot.
+    /// Clears the bit BIAS in the active word of a slot.
     pub(crate) fn take_bias(&mut self, slot: u32)
         requires { HasMarks (master_view self.old) slot fresh_marks }
         ensures table { self.new.token.table_id ≡ self.old.token.table_id }
@@ -195,8 +196,8 @@ impl MasterSeat {
             .fetch_sub::<TakesBias>(&mut token.seat, word, BIAS);
     }
 
-    /// Marks the node of a slot, which has these marks, as doomed. It wakes nobody: a thread that waits for
-    /// a node that is not doomed yet sleeps for a millisecond at most.
+    /// Marks the node of a slot, which has these marks, as doomed. It wakes nobody: a thread that waits at a
+    /// node that is not doomed yet sleeps for at most a millisecond.
     pub(crate) fn mark_node(&mut self, slot: u32, marks: NodeFlags)
         requires marks { HasMarks (master_view self.old) slot marks }
         requires undoomed { marks.doomed ≡ false }
@@ -228,7 +229,7 @@ impl MasterSeat {
         self.table.shared.load::<LooksOver>(&mut token.seat, word)
     }
 
-    /// Takes out the node of a slot whose active word the last step found drained.
+    /// Takes out the node of a slot whose active word was found drained by the last step.
     pub(crate) fn unlink(&mut self, slot: u32)
         requires marks { (x : NodeFlags) × HasMarks (master_view self.old) slot x }
         requires drained { HasLooked (master_view self.old) slot }
@@ -259,7 +260,7 @@ impl MasterSeat {
         self.table.shared.load::<Notes<E>>(&mut token.seat, 0);
     }
 
-    /// It gets what the other seat has seen, and that seat ends.
+    /// Shows the Master's seat what another seat has seen. The other seat ends.
     pub(crate) fn hear<E: Knowing>(&mut self, other: Seat<(), Sight>)
         requires slot { 0 < length (master_view self.old).slots }
         requires table { other.table_id ≡ self.old.token.table_id }
@@ -276,7 +277,7 @@ impl MasterSeat {
             .join_seat::<Hears<E>>(&mut token.seat, other);
     }
 
-    /// Compares what was passed to it with the run so far, in one word step that changes nothing.
+    /// Compares what the seat was shown with the run so far, in one word step that changes nothing.
     pub(crate) fn compare(&mut self)
         requires { 0 < length (master_view self.old).slots }
         ensures table { self.new.token.table_id ≡ self.old.token.table_id }
@@ -288,7 +289,7 @@ impl MasterSeat {
         self.table.shared.load::<Compares>(&mut token.seat, 0);
     }
 
-    /// A new seat, which holds nothing and has seen what the Master has.
+    /// Makes a new seat, which holds nothing and has seen what the Master has seen.
     pub(crate) fn answer(&mut self) -> Seat<(), Sight>
         requires { 0 < length (master_view self.old).slots }
         ensures table { self.new.token.table_id ≡ self.old.token.table_id }

@@ -1,12 +1,12 @@
-//! The Master's token. Whoever has a `&` to it can do nothing with it, and thus many threads may have one at
-//! once: they may look at what lies beside a Master, as those do who only read the tree.
+//! The Master's token. A thread that has only a `&` to the token can do nothing with it. Therefore several
+//! threads may have a `&` to it at once, and look at what lies beside a Master. Readers of the tree do so.
 ghost use Rattle.std.specs.Prelude.{◌≡◌};
 
 use crate::sight::Sight;
 use atomic_table::Seat;
 use std::marker::Model;
 
-/// The Master's seat at the table, which is reached only through a `&mut`. To a contract it is that seat.
+/// The Master's seat at the table, which can be reached only through a `&mut`. In contracts it is that seat.
 #[derive(Drop)]
 pub(crate) struct MasterToken {
     pub(crate) seat: Seat<(), Sight>,
@@ -26,7 +26,7 @@ impl Model for MasterToken {
     ghost also_owns = { λ _. ftrue };
 }
 
-// The check takes neither from these lines: it reads the two proofs in `proofs/master_token`.
+// The checker believes neither of these lines: it reads the two proofs in `proofs/master_token`.
 unsafe impl Send for MasterToken {}
 
 unsafe impl Sync for MasterToken {}

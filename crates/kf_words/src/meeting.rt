@@ -1,4 +1,4 @@
-//! The Master and a hold exchange what they have seen, while both are in hand.
+//! The Master and a hold exchange what they have seen, while one thread has both.
 ghost use Rattle.std.specs.Prelude.{◌≡◌, ◌≢◌};
 ghost use mathlib.Core.List.{IsPrefix};
 ghost use Rattle.kf_core.specs.declared.caller.Phase.TheVariants as phase_of;
@@ -16,7 +16,7 @@ use crate::seat::CallerSeat;
 use std::marker::Brand;
 
 impl Master {
-    /// As `meet`, of any seat that holds its slot.
+    /// Like `meet`, for any seat that holds its slot.
     fn meet_seat(&mut self, seat: &mut CallerSeat)
         requires table { seat.old.token.table_id ≡ self.old.table }
         requires holds { (view_of seat.old).phase ≢ phase_of.Spent }
@@ -34,9 +34,9 @@ impl Master {
         seat.take_over::<Brand>(answer);
     }
 
-    /// A hold reports to the Master what it has seen of the history, and has from now on seen all that the
-    /// Master has. So what it had seen is a beginning of the history that whoever has the Master finds.
-    /// Five word steps, which change nothing.
+    /// Compares what a hold has seen with the run so far, and lets the hold see all that the Master has seen.
+    /// So what the hold had seen of the history is a beginning of the history that the Master's owner finds.
+    /// It makes five steps at the table: two splits, two joins and a load. None of them changes a word.
     ///
     /// Condition: the hold is of this table.
     pub fn meet(&mut self, hold: &mut Hold)
@@ -50,9 +50,9 @@ impl Master {
         self.meet_seat(&mut hold.seat);
     }
 
-    /// As `meet`, of a maker's own hold.
+    /// Like `meet`, for a maker's own hold.
     ///
-    /// Condition: it is of this table.
+    /// Condition: the maker is of this table.
     pub fn meet_maker(&mut self, holds: &mut Holds)
         requires table { holds.old.by.table ≡ self.old.table }
         ensures kept { KeepsNodes self.old self.new }
@@ -63,9 +63,9 @@ impl Master {
         self.meet_seat(&mut holds.by);
     }
 
-    /// As `meet`, of a call.
+    /// Like `meet`, for a call.
     ///
-    /// Condition: it is of this table.
+    /// Condition: the call is of this table.
     pub fn meet_call(&mut self, call: &mut Call)
         requires table { call.old.table ≡ self.old.table }
         ensures kept { KeepsNodes self.old self.new }
@@ -77,9 +77,9 @@ impl Master {
         self.meet_seat(&mut call.seat);
     }
 
-    /// As `meet`, of a caller that saw its node drained.
+    /// Like `meet`, for a caller that saw its node drained.
     ///
-    /// Condition: it is of this table.
+    /// Condition: the receipt is of this table.
     pub fn meet_drained(&mut self, drained: &mut Drained)
         requires table { drained.old.table ≡ self.old.table }
         ensures kept { KeepsNodes self.old self.new }
@@ -91,9 +91,9 @@ impl Master {
         self.meet_seat(&mut drained.seat);
     }
 
-    /// As `meet`, of a caller that saw its node drained, and gone from the tree.
+    /// Like `meet`, for a caller that saw its node drained, and then saw it gone from the tree.
     ///
-    /// Condition: it is of this table.
+    /// Condition: the receipt is of this table.
     pub fn meet_parted(&mut self, parted: &mut Parted)
         requires table { parted.old.table ≡ self.old.table }
         ensures kept { KeepsNodes self.old self.new }
@@ -105,9 +105,9 @@ impl Master {
         self.meet_seat(&mut parted.seat);
     }
 
-    /// As `meet`, of a hidden file's token.
+    /// Like `meet`, for the token of a hidden file.
     ///
-    /// Condition: it is of this table.
+    /// Condition: the token is of this table.
     pub fn meet_hidden(&mut self, hidden: &mut Hidden)
         requires table { hidden.old.table ≡ self.old.table }
         ensures kept { KeepsNodes self.old self.new }
@@ -119,9 +119,9 @@ impl Master {
         self.meet_seat(&mut hidden.seat);
     }
 
-    /// As `meet`, of the token of a file that is about to be hidden.
+    /// Like `meet`, for the token of a file that is being hidden.
     ///
-    /// Condition: it is of this table.
+    /// Condition: the token is of this table.
     pub fn meet_hiding(&mut self, hiding: &mut Hiding)
         requires table { hiding.old.table ≡ self.old.table }
         ensures kept { KeepsNodes self.old self.new }

@@ -1,11 +1,12 @@
-//! A node as three words of its slot, which are put before it is linked. So a caller that counts a hold of
-//! it without the tree can read what it is.
+//! A node as three words of its slot, which are stored before the node is linked. So a caller that counts a
+//! hold of the node without the tree's lock can read what the node is.
 ghost use Rattle.std.specs.Prelude.{◌≡◌};
 ghost use Rattle.kf_words.specs.NodeWords.{kind_word, first_word, second_word, node_in};
 
 use kf_core::{Key, Node};
 
-/// The words of a node: 0 for a directory; 1, mode and tag for a file; 2 and its target for a link.
+/// The three words of a node. The first is 0 for a directory, 1 for a file and 2 for a link. The others are a
+/// file's mode and tag, or the slot and generation of a link's target; for a directory both are 0.
 pub(crate) fn words_of(node: Node) -> (u64, u64, u64)
     ensures kind { result.0 ≡ kind_word node }
     ensures first { result.1 ≡ first_word node }
@@ -18,7 +19,8 @@ pub(crate) fn words_of(node: Node) -> (u64, u64, u64)
     }
 }
 
-/// The node of three words, as far as each fits.
+/// The node that three words describe. A mode is taken modulo 2^16, and the slot and generation of a target
+/// modulo 2^32. If the first word is neither 1 nor 2, it is a directory.
 pub(crate) fn node_of(kind: u64, first: u64, second: u64) -> Node
     ensures { result ≡ node_in kind first second }
 {

@@ -1,4 +1,4 @@
-//! What the Master does to nodes: they are born, activated, doomed and unlinked.
+//! What the Master does with nodes: it makes, activates, dooms and unlinks them.
 ghost use Rattle.std.specs.Prelude.{◌≡◌, true, false, Some, None, is_some, slice_set, IfSome, if◌then◌else◌};
 ghost use Rattle.std.specs.Option.{option_map};
 ghost use Rattle.kf_core.specs.declared.slot.NodeFlags.{NodeFlags};
@@ -16,8 +16,9 @@ use crate::receipt::Drained;
 use kf_core::{Key, Node, NodeFlags, SlotState, without_bit};
 
 impl Master {
-    /// The lowest slot from 1 up that is found free, with its next generation. Returns None if no slot was
-    /// found free. It takes one word step for each slot up to that one in which no node is linked.
+    /// Finds a key for the next birth: the lowest slot from 1 up that is found free, with its next
+    /// generation. Returns None if no slot was found free. For each slot without a linked node, up to the one
+    /// that it found, it makes one word step.
     pub fn free_key(&mut self) -> Option<Key>
         ensures kept { KeepsNodes self.old self.new }
         ensures searched { Searched self.old.view (option_map (λ key. key.slot) result) self.new.view }
@@ -34,9 +35,10 @@ impl Master {
         })
     }
 
-    /// A node is born in a slot that was found free: linked, not activated, not doomed (`kernfs_add_one`).
+    /// Makes a node in a slot that was found free (`kernfs_add_one`). The node is linked, not activated and
+    /// not doomed.
     ///
-    /// Condition: the last `free_key` returned this key, with no birth, pin or unlink since.
+    /// Condition: the last `free_key` returned this key, and there was no birth, pin or unlink since then.
     pub fn born(&mut self, key: Key, node: Node)
         requires { MayBear self.old.view key }
         ensures table { self.new.table ≡ self.old.table }
@@ -60,7 +62,7 @@ impl Master {
         self.slots.set(key.slot as usize, state);
     }
 
-    /// Lets callers have references to a node that was not yet activated (`kernfs_activate`).
+    /// Activates a node (`kernfs_activate`): callers can take references to it as long as it is live.
     ///
     /// Condition: the node is linked, not activated and not doomed.
     pub fn activate(&mut self, key: Key)
@@ -110,12 +112,12 @@ impl Master {
         }
     }
 
-    /// Takes a node out of the tree, if its active word is found drained (`kernfs_unlink_sibling`). It
-    /// returns false if the word is not: a refused try may be in flight there, or a caller that broke its
-    /// protection has a reference again.
+    /// Takes a node out of the tree if its active word is found drained (`kernfs_unlink_sibling`). Otherwise
+    /// it returns false: a refused try may be in flight there, or a caller that broke its protection may have
+    /// a reference again.
     ///
-    /// The receipt shows that the word was drained once, not that it still is. So it is loaded again here.
-    /// From this load to the next step nobody can run on the node: only an activation takes its bias away,
+    /// The receipt shows that the word was drained once, not that it still is. So the word is loaded again
+    /// here. Between this load and the next step, nobody can run on the node: only an activation clears BIAS,
     /// and a doomed node is not activated.
     ///
     /// Condition: the receipt is of this table, and its node is linked.

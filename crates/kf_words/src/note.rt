@@ -1,26 +1,26 @@
-//! What is done while a Master is in hand, as under the lock that keeps one. The code keeps no list of it: no
-//! value of a `Note` is ever made.
+//! Notes of what was done while one thread had the Master, for example under the tree's lock. The code keeps
+//! no list of notes: no value of type `Note` is ever made.
 use kf_core::{Command, Key};
 use std::marker::Brand;
 
-/// What was done.
+/// A note of what was done while one thread had the Master.
 pub enum Note {
     /// A command was stored.
     Did(Command),
-    /// A removal of a node by itself was claimed.
+    /// A self-removal of a node was claimed.
     Claimed(Key),
-    /// The stored commands gave way to others that make the same tree.
+    /// The stored commands were replaced by others that make the same tree.
     Compacted,
     /// A tree of this many slots was made, with only this root.
     Began(u32, Key),
     /// The lock was taken.
     LockTaken,
-    /// The lock is about to be released: what stands between `LockTaken` and this was done while it was held
-    /// once.
+    /// The lock is about to be released. What was done between the last `LockTaken` and this note was done in
+    /// one critical section.
     LockReleased,
 }
 
-/// A note, which a call picks.
+/// The note that a call picks.
 pub trait Said {
     ghost use Rattle.kf_words.specs.declared.note.Note.{Note};
 

@@ -1,4 +1,4 @@
-//! The kinds of step of a caller on the table of words: what each makes of the view of its seat.
+//! The kinds of steps that a caller makes on the table of words, and how each changes the view of its seat.
 use crate::sight::Sight;
 use atomic_table::{Play, Split};
 use std::marker::{Brand, PhantomData};
@@ -12,7 +12,7 @@ impl Play<(), Sight> for Tries {
     ghost then = { MakesTry };
 }
 
-/// A caller takes a refused try back.
+/// A caller undoes a refused try.
 pub(crate) struct Undoes;
 
 impl Play<(), Sight> for Undoes {
@@ -30,7 +30,7 @@ impl Play<(), Sight> for Leaves {
     ghost then = { MakesLeave };
 }
 
-/// A caller gives its reference up inside its call.
+/// A caller gives up its reference inside its call.
 pub(crate) struct Breaks;
 
 impl Play<(), Sight> for Breaks {
@@ -57,7 +57,7 @@ impl Play<(), Sight> for Looks {
     ghost then = { MakesLook };
 }
 
-/// A caller sets the bit of a hidden key.
+/// A caller sets the bit HIDE.
 pub(crate) struct Hides;
 
 impl Play<(), Sight> for Hides {
@@ -75,7 +75,7 @@ impl Play<(), Sight> for LooksHidden {
     ghost then = { MakesLookHidden };
 }
 
-/// A caller takes the bit of a hidden key off.
+/// A caller clears the bit HIDE.
 pub(crate) struct Shows;
 
 impl Play<(), Sight> for Shows {
@@ -93,7 +93,7 @@ impl Play<(), Sight> for Parts {
     ghost then = { MakesPart };
 }
 
-/// A caller gives its slot back.
+/// A caller releases its hold of the slot.
 pub(crate) struct Releases;
 
 impl Play<(), Sight> for Releases {
@@ -102,7 +102,7 @@ impl Play<(), Sight> for Releases {
     ghost then = { MakesRelease };
 }
 
-/// The most holds of a slot, which a call picks.
+/// The greatest number of holds of a slot, as a call picks it.
 pub(crate) trait Most {
     ghost use Rattle.std.specs.Prelude.{ℕ};
 
@@ -113,7 +113,7 @@ impl Most for Brand {
     ghost most = { 0 };
 }
 
-/// A caller gives its slot back, and names the most holds of a slot.
+/// A caller releases its hold of the slot, and names the greatest number of holds of a slot.
 pub(crate) struct ReleasesOf<E: Most> {
     of: PhantomData<E>,
 }
@@ -124,7 +124,7 @@ impl<E: Most> Play<(), Sight> for ReleasesOf<E> {
     ghost then = { MakesReleaseOf E.most };
 }
 
-/// A caller loads the hold word, and names the most holds of a slot.
+/// A caller loads the hold word, and names the greatest number of holds of a slot.
 pub(crate) struct SeesHolds;
 
 impl Play<(), Sight> for SeesHolds {
@@ -133,7 +133,7 @@ impl Play<(), Sight> for SeesHolds {
     ghost then = { MakesMiss };
 }
 
-/// A caller counts one hold more, if the word is as it expects.
+/// A caller counts one more hold, if the hold word is as it expects.
 pub(crate) struct CountsHold;
 
 impl Play<(), Sight> for CountsHold {
@@ -153,7 +153,7 @@ impl Split<Sight> for SharesHold {
     ghost right = { shared_out };
 }
 
-/// A caller loads the hold word of any slot by an exchange, and names the most holds of a slot.
+/// A caller loads the hold word of any slot by an exchange, and names the greatest number of holds of a slot.
 pub(crate) struct SeesHoldsAt;
 
 impl Play<(), Sight> for SeesHoldsAt {
@@ -180,7 +180,7 @@ impl Play<(), Sight> for ReadsNode {
     ghost then = { MakesRead };
 }
 
-/// A caller counts one hold more of any key, if the hold word is as it expects.
+/// A caller counts one more hold of any key, if the hold word is as it expects.
 pub(crate) struct CountsHoldAt;
 
 impl Play<(), Sight> for CountsHoldAt {
@@ -189,7 +189,7 @@ impl Play<(), Sight> for CountsHoldAt {
     ghost then = { MakesExchangeAt };
 }
 
-/// The hold of any key that a caller counted goes to a new seat.
+/// The hold that a caller counted, of any key, goes to a new seat.
 pub(crate) struct HandsOn;
 
 impl Split<Sight> for HandsOn {
@@ -229,7 +229,7 @@ impl Play<(), Sight> for LoadsSleepers {
     ghost then = { MakesSleeperLoad };
 }
 
-/// A new seat, which holds nothing, has seen what a caller has.
+/// A new seat, which holds nothing, has seen what a caller has seen.
 pub(crate) struct Reports;
 
 impl Split<Sight> for Reports {

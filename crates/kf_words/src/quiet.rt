@@ -1,6 +1,6 @@
-//! The steps of a hold and a call that wake nobody, for a caller that wakes its sleepers itself or has none:
-//! what is owed to sleepers is in their results. `enter`, `leave` and `break_protection` are these and the
-//! wake.
+//! Steps of a hold and of a call that wake nobody, for a caller that wakes its sleepers itself or has none.
+//! Their results say what is owed to the sleepers. `enter`, `leave` and `break_protection` make these steps,
+//! and then the wake.
 ghost use Rattle.std.specs.Prelude.{◌≡◌, true, IfOk, IfErr, MatchResult};
 ghost use Rattle.kf_core.specs.Phases.{has_reference};
 ghost use Rattle.kf_core.specs.declared.caller.Phase.TheVariants as phase_of;
@@ -14,11 +14,13 @@ use crate::wake_due::WakeDue;
 use kf_core::Phase;
 
 impl Hold {
-    /// As `enter`. Beside a hold that comes back stands the wake that the second of its two steps owes.
+    /// Like `enter`, but it wakes nobody. If it returns the hold, it also returns the wake that the second of
+    /// its two steps owes.
     ///
-    /// It counts itself first and looks at the word that this very step found. To look first would leave a
-    /// gap in which a mark and a whole drain fit. So a try that fails has been counted for a moment, and a
-    /// caller that waits for the drain may have seen it: hence the wake that its undoing owes.
+    /// The caller first counts itself, and then looks at the word that this same step found. If it looked
+    /// first, a mark and a whole drain could fit between the look and the count. So a try that fails was
+    /// counted for a moment, and a caller that waits for the drain may have seen it. That is why the step
+    /// that undoes the try may owe a wake.
     pub fn enter_quiet(self) -> Result<Call, (Hold, WakeDue)>
         ensures same { MatchResult result (λ call. IsSameSeat self call) (λ back. IsSameSeat self back.0) }
         ensures call { IfOk result (λ call. Entered self call) }
@@ -43,9 +45,9 @@ impl Hold {
 }
 
 impl Call {
-    /// As `leave`, and returns also the wake that its step owes.
+    /// Like `leave`, but it wakes nobody, and also returns the wake that its step owes.
     ///
-    /// Condition: Running or Restored.
+    /// Condition: the call is Running or Restored.
     pub fn leave_quiet(self) -> (Hold, WakeDue)
         requires { has_reference self.phase ≡ true }
         ensures same { IsSameSeat self result.0 }
@@ -58,9 +60,9 @@ impl Call {
         (Hold { seat: seat.moved() }, due)
     }
 
-    /// As `break_protection`, and returns the wake that its step owes.
+    /// Like `break_protection`, but it wakes nobody, and returns the wake that its step owes.
     ///
-    /// Condition: Running.
+    /// Condition: the call is Running.
     pub fn break_quiet(&mut self) -> WakeDue
         requires { self.old.phase ≡ phase_of.Running }
         ensures same { IsSameSeat self.old self.new }

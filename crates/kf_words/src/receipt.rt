@@ -1,4 +1,5 @@
-//! Receipts: a caller that saw its node drained, and one that saw it gone as well.
+//! Receipts: one says that a caller saw its node drained, the other that it also saw the node gone from the
+//! tree.
 ghost use Rattle.std.specs.Prelude.{◌≡◌, IfOk, IfErr, MatchResult};
 ghost use Rattle.kf_core.specs.declared.caller.Phase.TheVariants as phase_of;
 ghost use Rattle.kf_words.specs.Callers.{IsSameSeat, SawParted, SawLinked, seat_view};
@@ -9,9 +10,10 @@ use crate::seat::{CallerSeat, release_seat};
 use kf_core::Key;
 use std::marker::Model;
 
-/// Saw that the node is doomed and that nobody had a reference to it. While it is out, no call of the node is
-/// Running: a callback that still runs there gave its protection up before the drain was seen, even if it has
-/// a reference again. It must be spent, by `parted` or `release`.
+/// A receipt: its caller saw that the node is doomed and that nobody had a reference to it. As long as the
+/// receipt exists, no call of the node is Running. A callback that still runs there gave up its protection
+/// before the drain was seen, even if it has a reference again. The receipt must be passed to `parted` or
+/// `release`.
 pub struct Drained {
     pub(crate) seat: CallerSeat,
 }
@@ -27,7 +29,8 @@ impl Model for Drained {
     ghost invariant = { λ d. IsInPhase phase_of.Drained (view_of d.seat) };
 }
 
-/// As `Drained`, and saw that the node has left the tree. It must be spent, by `release`.
+/// A receipt like `Drained`, whose caller also saw that the node has left the tree. It must be passed to
+/// `release`.
 pub struct Parted {
     pub(crate) seat: CallerSeat,
 }
@@ -52,8 +55,8 @@ impl Drained {
         self.seat.key()
     }
 
-    /// Looks, in one word step, whether the node has left the tree. It returns itself while the node is
-    /// linked.
+    /// Checks, in one word step, whether the node has left the tree. If so, it returns a `Parted`, and
+    /// otherwise the `Drained`.
     pub fn parted(self) -> Result<Parted, Drained>
         ensures same { MatchResult result (λ gone. IsSameSeat self gone) (λ back. IsSameSeat self back) }
         ensures gone { IfOk result (λ gone. SawParted self gone) }
@@ -71,8 +74,8 @@ impl Drained {
         }
     }
 
-    /// Gives its hold of the slot back (`kernfs_put`), in one word step. Nothing is left of it that a clause
-    /// could speak of.
+    /// Releases the hold of the slot (`kernfs_put`), in one word step. The receipt is gone afterwards, so no
+    /// clause can speak of it.
     pub fn release(self) {
         let Drained { mut seat } = self;
         release_seat(&mut seat);
@@ -89,8 +92,8 @@ impl Parted {
         self.seat.key()
     }
 
-    /// Gives its hold of the slot back (`kernfs_put`), in one word step. Nothing is left of it that a clause
-    /// could speak of.
+    /// Releases the hold of the slot (`kernfs_put`), in one word step. The receipt is gone afterwards, so no
+    /// clause can speak of it.
     pub fn release(self) {
         let Parted { mut seat } = self;
         release_seat(&mut seat);

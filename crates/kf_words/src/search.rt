@@ -11,8 +11,9 @@ use crate::master_seat::MasterSeat;
 use kf_core::{SlotList, SlotState};
 
 impl MasterSeat {
-    /// The first slot of a block that is found free. It skips each slot whose bit is set, and loads the hold
-    /// words only of slots without a node. It sets the bit of each slot in which it finds a node.
+    /// Returns the first slot of a block that is found free. It skips each slot whose bit is set, and loads
+    /// hold words only of slots without a node. It sets the bit of each slot in which it finds a node, and of
+    /// a slot that is the root's or not in the table.
     ///
     /// Condition: the block is one of those that have bits.
     fn free_in_block(
@@ -51,8 +52,9 @@ impl MasterSeat {
         None
     }
 
-    /// The first slot of a group of blocks that is found free, block by block. It skips a group that is
-    /// marked full. If all bits of its blocks are set in the end, it marks the group.
+    /// Returns the first slot of a group of blocks that is found free, block by block. If the group is marked
+    /// full, it returns None at once. If it finds no free slot, and all bits of the group's blocks are set at
+    /// the end, it marks the group full.
     ///
     /// Condition: the group is one of those that have a mark.
     fn free_in_group(
@@ -89,8 +91,9 @@ impl MasterSeat {
         None
     }
 
-    /// The first slot from 1 up that is found free, group by group. If all slots below it are known to have
-    /// nodes, it costs a look for each group before it, and for each block before it in its group.
+    /// Returns the first slot from 1 up that is found free, group by group. If all slots below it are known
+    /// to have nodes, this costs one look for each earlier group, and one for each earlier block in that
+    /// slot's group.
     pub(crate) fn find_free(
         &mut self,
         slots: &SlotList<SlotState>,

@@ -1,5 +1,6 @@
-//! A caller's seat at the table of words, and an owner of it without a seat. Their fields are private: the
-//! only the files of this module read them, and only `new`, `moved` and `end_to_owner` take a seat apart.
+//! A caller's seat at the table of words, and an owner of the table that has no seat. Their fields are
+//! private: only the files of this module read them. Only `new` and `moved` build a seat from its fields, and
+//! only `moved` and `end_to_owner` take one apart.
 ghost use Rattle.std.specs.Prelude.{◌≡◌, ◌*◌, ◌<◌, ◌≤◌, None, []};
 ghost use Rattle.std.specs.Arc.{arc_value};
 ghost use Rattle.kf_words.specs.Layout.{line_words};
@@ -29,19 +30,21 @@ enum NodeKind {
     Link,
 }
 
-/// A caller's seat at the table of words, with the key whose slot it holds and the node of that key. It lies
-/// in a `Hold`, `Call`, `Drained`, `Parted`, `Hiding` or `Hidden`, and ends when its slot is given back.
+/// A caller's seat at the table of words, with the key whose slot it holds and the node of that key. It is
+/// inside a `Hold`, `Holds`, `Call`, `Drained`, `Parted`, `Hiding` or `Hidden`, and ends when its hold of the
+/// slot is released.
 ///
-/// The node lies in three fields, since a value of sixteen bytes would go through memory at each atomic step.
+/// The node is kept in three fields, since a value of sixteen bytes would go through memory at each atomic
+/// step.
 pub struct CallerSeat {
-    /// Of a file.
+    /// The tag, if the node is a file.
     tag: u64,
     table: Arc<WordTable>,
-    /// Of a link.
+    /// The target, if the node is a link.
     target: Key,
     key: Key,
     kind: NodeKind,
-    /// The most holds of a slot.
+    /// The greatest number of holds of a slot.
     most: u32,
     token: Seat<(), Sight>,
     ghost of_table: { token.table_id ≡ (arc_value table).shared.table_id },
@@ -55,8 +58,9 @@ pub struct CallerSeat {
     ghost single: { (caller_of token.me.0.view).pinning ≡ None },
 }
 
-/// An owner of the table of words that has no seat, with the most holds of a slot there. The next seat that
-/// is made can have it, and then writes nothing to the count of owners, which all threads share.
+/// An owner of the table of words that has no seat, with the greatest number of holds of a slot there. The
+/// next seat that is made can take this owner. It then writes nothing to the count of owners, which all
+/// threads share.
 #[derive(Drop)]
 pub struct Owner {
     table: Arc<WordTable>,

@@ -1,11 +1,12 @@
-//! Entering and leaving by the words, as any guard does it.
+//! The guard (`kf_core::Guard`) that enters and leaves nodes by their words.
 ghost use Rattle.std.specs.Prelude.{◌≡◌, true};
 
 use crate::call::Call;
 use crate::hold::Hold;
 use kf_core::{ActiveCall, Guard, Key, Phase};
 
-/// The holds and calls of tables of words. It keeps nothing: each hold and call has its own seat.
+/// The guard for holds and calls of tables of words. It has no state: each hold and each call has its own
+/// seat.
 #[derive(Drop)]
 pub struct Seats;
 

@@ -3,8 +3,9 @@ use crate::sight::{Opening, Sight};
 use atomic_table::{Table, TableRule};
 use std::alloc::Global;
 
-/// The rule of the table, between any two steps: a run of the steps of its seats leads here from the opening,
-/// each seat has seen a beginning of it, and the words show the views of all seats.
+/// The rule of the table, which holds between any two steps. A run of steps of the seats leads from the
+/// opening to the table as it is, each seat has seen a beginning of that run, and the words show the views of
+/// all seats.
 pub struct Rule;
 
 impl TableRule<(), Sight, Opening> for Rule {

@@ -8,18 +8,19 @@ use crate::layout::ends_a_wait;
 use crate::seat::CallerSeat;
 use std::marker::Model;
 
-/// Whether the sleepers of a slot are to be woken. It is spent by a `match`: code that forgets it does not
-/// compile.
+/// Whether the sleepers of a slot must be woken. A `Wake` must be consumed by a `match`: code that forgets it
+/// does not compile.
 pub enum Wake {
-    /// One of them may wait for what the step left.
+    /// One of the sleepers may be waiting for the word that the step left.
     Wanted,
-    /// None of them can.
+    /// No sleeper can be waiting for that word.
     Unwanted,
 }
 
-/// What a step that took one user off an active word owes to the sleepers there: a wake, if by the word that
-/// it found one of them may wait for what is left. It is spent by a wake, by `none` if they need no wake, or
-/// by `must_wake`: code that forgets it does not compile.
+/// What a step owes to the sleepers at an active word after it took one user off that word. It owes a wake
+/// if, by the word that it found, one of them may be waiting for the word that it left. This value must be
+/// consumed: by a wake, by `none` if the sleepers need no wake, or by `must_wake`. Code that forgets it does
+/// not compile.
 pub struct WakeDue {
     slot: u32,
     found: u64,
@@ -34,7 +35,7 @@ impl Model for WakeDue {
 }
 
 impl WakeDue {
-    /// What a step owes that found this word, and took one user off it.
+    /// What is owed by a step that found this word and took one user off it.
     pub(crate) fn new(slot: u32, found: u64) -> WakeDue
         ensures slot { result.slot ≡ slot }
         ensures found { result.found ≡ found }
@@ -42,15 +43,15 @@ impl WakeDue {
         WakeDue { slot, found }
     }
 
-    /// Whether to wake the sleepers: the step took off the last user, and the node is doomed or hidden,
-    /// which is what they wait for.
+    /// Whether the sleepers must be woken: the step took off the last user, and the node is doomed or hidden.
+    /// The sleepers wait for such a step.
     pub fn is_wanted(&self) -> bool
         ensures { result ≡ wants_wake (self.now.found - 1) }
     {
         ends_a_wait(self.found)
     }
 
-    /// Spends it with no wake.
+    /// Spends it without a wake.
     ///
     /// Condition: `is_wanted` returns false.
     pub fn none(self)
@@ -59,7 +60,7 @@ impl WakeDue {
         let WakeDue { slot: _, found: _ } = self;
     }
 
-    /// Whether a wake is owed, for a caller that wakes its sleepers by its own means. The result has to be
+    /// Whether a wake is owed, for a caller that wakes its sleepers by its own means. The result must be
     /// matched.
     pub fn must_wake(self) -> Wake
         ensures { is_wanted result ≡ wants_wake (self.found - 1) }
@@ -72,8 +73,8 @@ impl WakeDue {
         }
     }
 
-    /// Wakes all sleepers of the slot, which is the seat's: it loads their count, and makes a system call
-    /// only if there are any.
+    /// Wakes all sleepers of the slot, which is the slot of this seat. It loads their count, and makes a
+    /// system call only if there are any.
     fn wake(self, seat: &mut CallerSeat)
         requires { self.slot ≡ seat.old.key.slot }
         ensures same { IsSameSeat (handle_of seat.old) (handle_of seat.new) }

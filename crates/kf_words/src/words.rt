@@ -23,8 +23,8 @@ use std::alloc::{AllocError, Global};
 use std::marker::Model;
 use std::sync::Arc;
 
-/// A table of words: for each slot a line with an active word and a hold word. Contracts see which table it
-/// is. It keeps the table; the Master and the holds that it gives do all else.
+/// A table of words: for each slot, a line with an active word and a hold word. Contracts see only which
+/// table it is. `Words` only keeps the table; the Master, and the holds that it gives out, do all else.
 #[derive(Drop)]
 pub struct Words {
     table: Arc<WordTable>,
@@ -75,8 +75,8 @@ fn first_slots(alloc: Global, slots: u32, start: u32) -> Result<SlotList<SlotSta
     Ok(states)
 }
 
-/// The bits of blocks and the marks of groups, at the opening: none is set. All groups are whole, so the last
-/// may have blocks of no slots.
+/// The bits of blocks and the marks of groups at the opening: none is set. Every group has all its blocks, so
+/// the last group may have blocks without slots.
 fn first_marks(alloc: Global, slots: u32) -> Result<(Vec<u64>, Vec<bool>), Refusal>
     requires some { 1 ≤ slots }
     requires few { slots ≤ most_slots }
@@ -90,8 +90,9 @@ fn first_marks(alloc: Global, slots: u32) -> Result<(Vec<u64>, Vec<bool>), Refus
     Ok((full, full_groups))
 }
 
-/// A new table with the words of its opening, and the Master's seat at it. The table copies the words, so
-/// both copies are in memory until it returns, and nothing else of the Master's is yet.
+/// Makes a table with the words of its opening, and the Master's seat at it. The table copies the words, so
+/// both copies are in memory until this returns. The rest of the Master's memory is allocated only after
+/// that.
 fn open_table(alloc: Global, opening: Opening) -> Result<(Words, MasterSeat), AllocError>
     requires some { 1 ≤ opening.slots }
     requires few { opening.holds ≤ 65535 }
@@ -114,8 +115,8 @@ fn open_table(alloc: Global, opening: Opening) -> Result<(Words, MasterSeat), Al
 }
 
 impl Words {
-    /// A table of words with its Master: only the root has a node, a live directory of generation 1, and the
-    /// history has no note.
+    /// Makes a table of words and its Master. Only the root has a node, a live directory of generation 1, and
+    /// the history has no note.
     ///
     /// Refusal: NoMemory.
     pub fn new(alloc: Global, limits: Limits) -> Result<(Words, Master), Refusal>
@@ -128,7 +129,7 @@ impl Words {
         Words::new_at(alloc, limits, 0)
     }
 
-    /// The same, if each slot has already had `start` generations. The root has the next.
+    /// Like `new`, but each slot has already had `start` generations, and the root has the next one.
     ///
     /// Condition: `start` is at most 4294967294.
     ///

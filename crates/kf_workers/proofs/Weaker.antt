@@ -1,4 +1,4 @@
--- What boards of the shared tree reply is of the form that each line asks for.
+-- A board of the shared tree gives each line a reply of the form that the line asks for.
 use Rattle.std.proofs.Common.{◌≡◌, ◌≢◌, ◌<◌, zero, suc, ℕ, List, [], ◌∷◌, ◌++◌, map, All, get_or, length, refl, sym, ap, subst, arith, eq-eqb, ne_eqb, if◌then◌else◌}
 use Rattle.std.specs.Prelude.{Option, None, Some}
 use Rattle.std.proofs.lemmas.List.Elements.{All-nil}
@@ -36,7 +36,7 @@ module _ (Board : Type 0) where
   no_reply : (w who : ℕ) (command reply : List ℕ) → who ≢ w → own_reply who (of_seat w command) reply ≡ []
   no_reply w who command reply ne = ap (λ b. if b then reply ∷ [] else []) (ne_eqb w who (λ e. ne (sym e)))
 
-  -- some board replied to these commands so
+  -- some board gave these replies to these commands
   abbrev Ran : List (List ℕ) → List (List ℕ) → Type 0
   Ran commands replies = (before now : Board) × Tells suits before commands replies now
 
@@ -46,7 +46,7 @@ module _ (Board : Type 0) where
   others_answer : (c r : List ℕ) (cs rs : List (List ℕ)) → Ran (c ∷ cs) (r ∷ rs) → Ran cs rs
   others_answer c r cs rs t = (t.2.0, t.1, t.2.3)
 
-  -- the turns of seat `w` in front are its own
+  -- a turn at the front that seat `w` takes is its own: it has the turn's command and reply
   own_front : (w : ℕ) (c r : List ℕ) (cs rs : List (List ℕ)) → Ran (own_command w (of_seat w c) ++ cs) (own_reply w (of_seat w c) r ++ rs) → Ran (c ∷ cs) (r ∷ rs)
   own_front w c r cs rs t = subst (λ a. Ran (a ++ cs) (r ∷ rs)) (own_command_is w c) (subst (λ a. Ran (own_command w (of_seat w c) ++ cs) (a ++ rs)) (own_reply_is w c r) t)
 

@@ -1,4 +1,4 @@
--- A run of a whole script, from what reading, running and writing say.
+-- A run of a whole script, from what the contracts of reading, running and writing state.
 use Rattle.std.proofs.Common.{◌≡◌, ℕ, List, refl, subst, sym}
 use Rattle.std.specs.Prelude.{◌≢◌, Option, Result, Ok, Err, IfErr, OnOk}
 use Rattle.std.specs.Io.KnownBytes.{Consumes, IsAtEnd, Keeps}
@@ -29,7 +29,7 @@ kept_whole Read workers input left old new other kept = kept
 kept_whole Write workers input left old new other kept = absurd (other refl)
 kept_whole Memory workers input left old new other kept = kept
 
--- a run whose replies could not be written whole
+-- a run whose replies could not all be written
 pub cut_whole : {T : Type 0} (workers : ℕ) (input left old new : Option (List ℕ)) (script replies : List ℕ) (result : Result T RunFault)
     → Consumes input left script → RepliedInForm workers (lines_of script) replies → WrittenOrCut old new result replies
     → IfErr result (λ fault. fault ≡ Write) → IfErr result (λ reason. StoppedWhole reason workers input left old new)

@@ -1,4 +1,4 @@
--- What a board of the shared tree may reply to each request, whatever others did to the tree before and
+-- What a board of the shared tree may reply to each request, whatever other boards did to the tree before and
 -- meanwhile.
 use Rattle.std.specs.Prelude.{ℕ, Bool, List, ◌≡◌, ◌≤◌, length, decimal, Result, IfOk, Option, None, Some}
 use Rattle.kf_core.specs.declared.key.Key.{Key}
@@ -12,7 +12,7 @@ use Rattle.kf_script.specs.ReplyText.{bad_line_text, done_text}
 use Rattle.kf_replies.specs.ReplyParts.{count_text}
 use Rattle.kf_workers.specs.Told.{done_told, key_told, changed_told, read_told, stat_told, names_told, text_told}
 
--- done, or refused
+-- `ok`, or a refusal
 abbrev pub IsDone : List ℕ → Type 0
 IsDone reply = (told : Result (Unit {0}) Refusal) × (reply ≡ done_told told)
 
@@ -24,7 +24,7 @@ IsKey reply = (told : Result Key FileError) × (reply ≡ key_told told)
 abbrev pub AreNames : List ℕ → Type 0
 AreNames reply = (told : Result (List (List ℕ)) Refusal) × (reply ≡ names_told told)
 
--- what a `stat` reports, or why not
+-- what a `stat` reports, or a refusal
 abbrev pub IsStat : List ℕ → Type 0
 IsStat reply = (told : Result Stat Refusal) × (reply ≡ stat_told told)
 
@@ -43,7 +43,7 @@ AreBytes most reply =
 abbrev pub IsCount : List ℕ → Type 0
 IsCount reply = (told : Result ℕ FileError) × (reply ≡ count_text told)
 
--- what a poll reports, or why not
+-- what a poll reports, or a refusal
 abbrev pub IsChange : List ℕ → Type 0
 IsChange reply = (told : Result Bool Refusal) × (reply ≡ changed_told told)
 
@@ -51,7 +51,7 @@ IsChange reply = (told : Result Bool Refusal) × (reply ≡ changed_told told)
 abbrev pub IsNumberReply : List ℕ → Type 0
 IsNumberReply reply = (number : ℕ) × (reply ≡ decimal number)
 
--- the form that the reply to each request has
+-- the reply has the form that this request calls for
 abbrev pub Suits : RequestWords → List ℕ → Type 0
 Suits (make_directory path is_live) reply = IsKey reply
 Suits (make_file path mode text) reply = IsKey reply
@@ -67,7 +67,8 @@ Suits count_commands reply = IsNumberReply reply
 Suits wait reply = reply ≡ done_text
 Suits _ reply = IsDone reply
 
--- the reply to a line of a seat: a line that makes no request is a bad line
+-- the reply to a line of a seat suits the request that the line makes; if the line makes none, the reply says
+-- that it is a bad line
 abbrev pub AnswersTo : Option RequestWords → List ℕ → Type 0
 AnswersTo None reply = reply ≡ bad_line_text
 AnswersTo (Some request) reply = Suits request reply

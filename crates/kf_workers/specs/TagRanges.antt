@@ -5,6 +5,6 @@ use Rattle.std.specs.Prelude.{ℕ, ◌+◌, ◌*◌, ◌^◌, ◌≤◌, ◌<◌
 abbrev pub first_tag : ℕ → ℕ
 first_tag seat = seat * 2 ^ 58
 
--- a tag of this seat
+-- the tag is one of this seat's tags
 abbrev pub IsTagOf : ℕ → ℕ → Type 0
 IsTagOf seat tag = (first_tag seat ≤ tag) × (tag < first_tag (seat + 1))

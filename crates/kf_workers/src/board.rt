@@ -24,16 +24,16 @@ mod removing;
 /// How many files may be open on a board: one for each letter.
 const FILES: usize = 26;
 
-/// Boards find nodes without the lock if a node may have this many holds: those of the root, which they keep
-/// then, are none that a line lacks.
+/// Boards find nodes without the lock only if a node may have at least this many holds. Each board then keeps
+/// a hold of the root, and with so high a limit no line of the script lacks these holds.
 const MANY_HOLDS: u32 = 64;
 
-/// The board of one who runs lines on a shared tree: its open files by letter, its tokens of hidden files by
-/// slot, the tags of the files that it may make, and a handle to the event numbers. What a file
-/// gives is read into its page. There is room for a token of each slot, and no memory is written
-/// before one is kept; the pages of files that were closed are kept for the next ones.
+/// The board of the owner or of a worker, which runs lines on a shared tree. It has its open files by letter,
+/// its tokens of hidden files by slot, the tags of the files that it may make, and a handle to the event
+/// numbers. Files are read into its page. It has room for a token of each slot, and writes none of this
+/// memory before it keeps a token. It keeps the pages of closed files for the next ones.
 ///
-/// It must be spent, by [`WorkerBoard::end`], which gives all its holds back.
+/// It must be passed to [`WorkerBoard::end`], which releases all its holds.
 pub struct WorkerBoard<'x, W: ScriptOps, N: Naming, R: Wait> {
     rt: &'x R,
     common: &'x Common<'x, W, N>,
@@ -48,7 +48,7 @@ pub struct WorkerBoard<'x, W: ScriptOps, N: Naming, R: Wait> {
     ghost whole_page: { vec_len page ≡ 4096 },
 }
 
-/// No file under any of the 26 letters.
+/// A place for each of the 26 letters, with no file in it.
 fn no_files<N: Naming>(alloc: Global) -> Result<Vec<Option<BoxedFile<N>>>, Refusal>
     ensures { IfOk result (λ files. vec_len files ≡ 26) }
 {
@@ -60,7 +60,8 @@ fn no_files<N: Naming>(alloc: Global) -> Result<Vec<Option<BoxedFile<N>>>, Refus
     Ok(files)
 }
 
-/// What holds nodes without the lock. None if a node may have few holds, or there was no memory.
+/// Makes a holder, which takes holds of nodes without the lock. It returns `None` if a node may have only few
+/// holds, or if there was no memory.
 fn new_holder<W: ScriptOps, N: Naming, R: Wait>(
     rt: &R,
     alloc: Global,
@@ -74,7 +75,7 @@ fn new_holder<W: ScriptOps, N: Naming, R: Wait>(
 }
 
 impl<'x, W: ScriptOps, N: Naming, R: Wait> WorkerBoard<'x, W, N, R> {
-    /// A board without open files and tokens. `NoMemory` if it could not be had.
+    /// A board without open files and tokens. It fails with `NoMemory` if memory for it was refused.
     pub fn new(
         rt: &'x R,
         alloc: Global,

@@ -8,7 +8,7 @@ use kf_shared::{Naming, SharedTree};
 use std::alloc::Global;
 use std::sync::{Mutex, Wait};
 
-/// The last file of a slot that a script made: its generation and its tag. Generation 0 is that of no node.
+/// The last file that a script made in a slot: its generation and its tag. No node has generation 0.
 #[derive(Clone, Copy)]
 struct LastFile {
     generation: u32,
@@ -17,8 +17,9 @@ struct LastFile {
 
 /// What all seats of a run share: the tree, the bus, and the callbacks of the files that scripts make.
 ///
-/// No two of its locks are ever held at once: each is unlocked before another lock, a callback or a wait.
-/// What they keep is seen by nobody outside, so its functions have no clauses.
+/// The lock of the last files is never held together with another lock: it is unlocked before another lock is
+/// taken, a callback runs or the thread waits. Nothing outside sees what it guards, so the functions have no
+/// clauses.
 #[derive(Drop)]
 pub struct Common<'x, W, N: Naming> {
     pub tree: SharedTree<N>,
@@ -28,7 +29,8 @@ pub struct Common<'x, W, N: Naming> {
 }
 
 impl<'x, W: ScriptOps, N: Naming> Common<'x, W, N> {
-    /// A run's tree with no device. `NoMemory` if it could not be had.
+    /// What the seats of a new run share: its tree, and a bus without devices. It fails with `NoMemory` if
+    /// memory was refused.
     pub fn new(
         alloc: Global,
         tree: SharedTree<N>,
@@ -57,15 +59,17 @@ impl<'x, W: ScriptOps, N: Naming> Common<'x, W, N> {
         }
     }
 
-    /// Drops the text of a file that is not in the tree: an empty one takes its place, and no memory.
+    /// Drops the text of a file that is not in the tree: an empty text, which needs no memory, takes its
+    /// place.
     ///
     /// Context: takes the lock of the texts of its tag.
     pub fn let_go<R: Wait>(&self, rt: &R, tag: u64) {
         let _ = self.texts.first(rt, tag, b"");
     }
 
-    /// Notes the tag of a new file, and returns that of an earlier file of its slot, which has left the tree.
-    /// If a later file of the slot was noted before, it is the new one that has left meanwhile.
+    /// Notes the tag of a new file, and returns the tag of an earlier file of its slot, which has left the
+    /// tree. If a later file of the slot was already noted, the new file has left the tree meanwhile, and its
+    /// own tag is returned.
     fn note(last_files: &mut Vec<LastFile>, key: Key, tag: u64) -> Option<u64> {
         let last = last_files.get_mut(key.slot as usize)?;
         if last.generation >= key.generation {
@@ -83,8 +87,8 @@ impl<'x, W: ScriptOps, N: Naming> Common<'x, W, N> {
         }
     }
 
-    /// Notes that a file was made, and lets the text of its slot's earlier file go: so at most one text is
-    /// kept for each slot, beside those of the lines that run.
+    /// Notes that a file was made, and drops the text of its slot's earlier file. So at most one text is kept
+    /// for each slot, in addition to the texts of lines that are still running.
     ///
     /// Context: takes the lock of the last files, and then that of the texts of a tag.
     pub fn made_file<R: Wait>(&self, rt: &R, key: Key, tag: u64) {

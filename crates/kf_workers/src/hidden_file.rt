@@ -1,4 +1,4 @@
-//! Hidden files of the tree of one name.
+//! The tokens of hidden files of one tree.
 
 ghost use Rattle.std.specs.Prelude.{◌≡◌};
 
@@ -7,7 +7,8 @@ use kf_shared::Naming;
 use kf_words::Hidden;
 use std::marker::{Model, PhantomData};
 
-/// What can show a hidden file of this tree again. It must be spent, by [`HiddenFile::into_hidden`].
+/// A token that can show a hidden file of the tree with this name again. It must be passed to
+/// [`HiddenFile::into_hidden`].
 pub struct HiddenFile<N: Naming> {
     hidden: Hidden,
     name: PhantomData<N>,
@@ -27,7 +28,7 @@ impl<N: Naming> Model for HiddenFile<N> {
 impl<N: Naming> HiddenFile<N> {
     /// The token of a hidden file of this tree.
     ///
-    /// Condition: it is of the table of the name.
+    /// Condition: `hidden` is of this tree's table.
     pub fn new(hidden: Hidden) -> HiddenFile<N>
         requires { hidden.table ≡ N.table }
         ensures { result ≡ hidden }
@@ -45,7 +46,7 @@ impl<N: Naming> HiddenFile<N> {
         self.hidden.key()
     }
 
-    /// What it is made of.
+    /// The `Hidden` that it was made from.
     pub fn into_hidden(self) -> Hidden
         ensures same { result ≡ self }
         ensures table { result.table ≡ N.table }

@@ -1,7 +1,9 @@
-//! Many threads on one tree: a script run by its owner and its workers, round by round.
+//! Many threads on one tree: the owner of a script and its workers run it, round by round.
 //!
-//! They find the files that they open without the tree's lock. They take it for names of more than 24 bytes,
-//! and for nodes in slots from 65,536 on, which have no words for look-ups.
+//! They find the files that they open without taking the tree's lock. If such a look-up gives no hold, they
+//! look the path up under the lock. That is always so for names of more than 24 bytes, and for nodes in slots
+//! from 65,536 on, which have no words for look-ups. If a node may have fewer than 64 holds, they always look
+//! up under the lock.
 #![tactic(auto)]
 
 mod board;

@@ -1,4 +1,4 @@
-//! A script read whole, as a run by many needs it.
+//! Reads a whole script before any line runs, as a run with workers needs it.
 
 ghost use Rattle.std.specs.Prelude.{◌≡◌, ◌≢◌, ◌≤◌, ◌++◌, ℕ, List, IfErr, IfOk, OnOk, vec_len};
 ghost use Rattle.std.specs.Io.KnownBytes.{Consumes, IsAtEnd};
@@ -7,17 +7,18 @@ use kf_script::RunFault;
 use std::alloc::Global;
 use std::io::Read;
 
-/// The longest script that is read whole, in bytes.
+/// The length of the longest script that is read whole, in bytes.
 const SCRIPT_LIMIT: usize = 1_048_576;
 
-/// The calls of read that are made for one script; one that is not at its end then is a read fault.
+/// At most this many calls of read are made for one script. If the script is not at its end then, that is a
+/// read fault.
 const READ_LIMIT: u32 = 16_777_216;
 
-/// Bytes that one call of read may give.
+/// How many bytes one call of read may return.
 const CHUNK: usize = 16_384;
 
-/// Reads once, and puts the bytes behind the script. Returns how many they were: 0 only at the end of the
-/// input.
+/// Reads once, and appends the bytes to the script. It returns the number of bytes, which is 0 only at the
+/// end of the input.
 fn read_more<R: Read>(reader: &mut R, script: &mut Vec<u8>) -> Result<usize, RunFault>
     ensures more { OnOk result ((bytes : List ℕ)
         × Consumes (R.remaining reader.old) (R.remaining reader.new) bytes
@@ -39,7 +40,7 @@ fn read_more<R: Read>(reader: &mut R, script: &mut Vec<u8>) -> Result<usize, Run
     }
 }
 
-/// Reads a script to its end: all bytes that the reader gave.
+/// Reads a script to its end, and returns all bytes that the reader returned.
 ///
 /// Faults: `Read`, if a call of read failed, if the script has more than 1,048,576 bytes, or if it
 /// was not at its end after 16,777,216 calls of read; `Memory`, if memory for it was refused.

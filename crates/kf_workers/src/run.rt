@@ -1,4 +1,4 @@
-//! The whole run.
+//! Runs a whole script, with an owner and workers.
 
 ghost use Rattle.std.specs.Prelude.{◌≡◌, ◌≤◌, ◌+◌, OnOk, IfOk, IfErr, vec_len};
 ghost use Rattle.kf_script.specs.Lines.{lines_of};
@@ -19,11 +19,11 @@ use std::marker::Brand;
 use std::sync::Wait;
 use std::thread::Threads;
 
-/// Words for look-ups are kept for this many slots at most, in 6 MB. What lies in higher ones is opened under
+/// Words for look-ups are kept for at most this many slots, in 6 MB. Files in higher slots are opened under
 /// the tree's lock.
 const MOST_LOOKS: u32 = 65_536;
 
-/// Adds a seat with a new board, which has the tags of its number.
+/// Adds a seat with a new board, which has the tags of the seat's number.
 fn add_seat<'x, W: ScriptOps, N: Naming, R: Wait>(
     seats: &mut Vec<Runner<WorkerBoard<'x, W, N, R>>>,
     rt: &'x R,
@@ -70,7 +70,7 @@ fn add_seats<'x, W: ScriptOps, N: Naming, R: Wait>(
     Ok(())
 }
 
-/// Ends each seat: its files are closed, and what it hid is shown.
+/// Ends each seat: closes its files, and shows the files that it hid.
 fn end_all<W: ScriptOps, N: Naming, R: Wait>(mut seats: Vec<Runner<WorkerBoard<'_, W, N, R>>>) {
     while let Some(seat) = seats.pop() {
         seat.into_board().end();
@@ -78,7 +78,7 @@ fn end_all<W: ScriptOps, N: Naming, R: Wait>(mut seats: Vec<Runner<WorkerBoard<'
     seats.destroy_empty();
 }
 
-/// Runs a script on new seats, which are left for the caller to end.
+/// Runs a script on new seats, which the caller must end.
 fn run_seats<'x, W: ScriptOps + Sync, N: Naming + Send + Sync, R: Threads + Wait + Sync>(
     seats: &mut Vec<Runner<WorkerBoard<'x, W, N, R>>>,
     rt: &'x R,
@@ -97,7 +97,7 @@ fn run_seats<'x, W: ScriptOps + Sync, N: Naming + Send + Sync, R: Threads + Wait
     Ok(out)
 }
 
-/// Runs a script on a tree, and gives all back that its boards had.
+/// Runs a script on a tree, and then ends its boards, which releases all that they had.
 fn run_on<'x, W: ScriptOps + Sync, N: Naming + Send + Sync, R: Threads + Wait + Sync>(
     rt: &'x R,
     alloc: Global,
@@ -115,7 +115,7 @@ fn run_on<'x, W: ScriptOps + Sync, N: Naming + Send + Sync, R: Threads + Wait + 
     out
 }
 
-/// Runs a script on a new tree, under the name of its table.
+/// Gives a new tree its name, and runs a script on it.
 fn run_named<W: ScriptOps + Sync, N: Naming + Send + Sync, R: Threads + Wait + Sync>(
     rt: &R,
     alloc: Global,
@@ -133,21 +133,25 @@ fn run_named<W: ScriptOps + Sync, N: Naming + Send + Sync, R: Threads + Wait + S
     run_on(rt, alloc, &common, limits, workers, script)
 }
 
-/// Runs a script by its owner and 1 to 16 workers on a new tree with a new bus, and returns the replies to
-/// its lines, each with a newline, in the order of the lines.
+/// Runs a script with its owner and 1 to 16 workers, on a new tree with a new bus. It returns the replies to
+/// the lines, each with a newline, in the order of the lines.
 ///
-/// A line `@W COMMAND` is worker W's; `wait` ends a round; every other line is the owner's. In a round the
-/// owner and each worker run their own lines in the order of the script, each in a separate thread (if none
-/// can be made, the calling thread runs them). A `wait` gets its reply when every line above has its reply,
-/// and no line below begins before. Each of them has 26 files and its own tokens of hidden files, which stay
-/// over rounds. `texts` serves the files that the script makes, under tags below 2^63; the bus serves those
-/// of its devices. All holds are given back at the end.
+/// - A line `@W COMMAND` is worker W's, `wait` ends a round, and every other line is the owner's.
+/// - In a round the owner and each worker run their own lines in the order of the script, each in a separate
+///   thread. (If a thread cannot be made, the calling thread runs its lines. If only the owner or one worker
+///   has lines in a round, the calling thread runs them.)
+/// - A `wait` gets its reply when every line above it has its reply, and no line below it begins before that.
+/// - The owner and each worker have 26 files and their own tokens of hidden files, which they keep from round
+///   to round. All holds are released at the end.
+/// - `texts` serves the files that the script makes, under tags below 2^63. The bus serves the files of its
+///   devices.
 ///
-/// It may never return: a removal waits for the callbacks in its subtree.
+/// It may never return, since a removal waits for the callbacks in its subtree.
 ///
 /// Condition: there are 1 to 16 workers.
 ///
-/// Fault: `Memory`, if memory was refused for the run itself; for a line it is the line's reply.
+/// Fault: `Memory`, if memory was refused for the run itself. If memory was refused for a line, the line's
+/// reply says so.
 pub fn run_workers<W: ScriptOps + Sync, R: Threads + Wait + Sync>(
     rt: &R,
     alloc: Global,

@@ -1,4 +1,4 @@
-//! The callbacks of the files that scripts make, on whichever tree a run makes for itself.
+//! The callbacks of the files that scripts make, on whatever tree a run makes for itself.
 
 ghost use Rattle.std.specs.Prelude.{◌≡◌, ◌<◌, ◌≤◌, ℕ, List, [], Result, length, true};
 ghost use Rattle.kf_core.specs.Phases.{has_reference};
@@ -12,22 +12,23 @@ use kf_shared::{Naming, SharedTree};
 use kf_words::Call;
 use std::sync::Wait;
 
-/// The callbacks of the files that scripts make (`struct sysfs_ops`): those of `WaitOps`, of whichever tree
-/// the run makes, and the first text of a new file. Any number of threads may call them at once, with no lock
-/// held. A file's tag tells it from others.
+/// The callbacks of the files that scripts make (`struct sysfs_ops`): those of `WaitOps`, for whatever tree
+/// the run makes, and one that takes the first text of a new file. Any number of threads may call them at
+/// once, with no lock held. A file is identified by its tag.
 ///
-/// Conditions of each show and store: the call is Running, and of the table of the tree.
+/// Conditions of each show and store: the call is Running, and belongs to the tree's table.
 pub trait ScriptOps {
-    /// A show for this tag may fill a page with these bytes, or give this fault.
+    /// A show for this tag may fill a page with these bytes, or fail with this fault.
     ghost may_show: { Self → ℕ → Result (List ℕ) Fault → Type 0 };
 
     /// A store of these bytes for this tag may return this.
     ghost may_store: { Self → ℕ → List ℕ → Result ℕ Fault → Type 0 };
 
-    /// The first text of a file with this tag may be returned so.
+    /// A `first` with these bytes for this tag may return this.
     ghost may_begin: { Self → ℕ → List ℕ → Result (Unit {0}) Fault → Type 0 };
 
-    /// Fills the empty page with the text, or gives a fault. What it filled before a fault is not shown.
+    /// Fills the empty page with the text, or fails with a fault. What it put on the page before a fault is
+    /// not shown.
     fn show<N: Naming, R: Wait>(
         &self,
         rt: &R,
@@ -43,7 +44,7 @@ pub trait ScriptOps {
         ensures seat { IsSameSeat call.old call.new }
         ensures reference { has_reference call.new.phase ≡ true };
 
-    /// Takes the bytes, 1 to 4,096 of them, and returns how many it took, or gives a fault.
+    /// Takes the bytes, 1 to 4,096 of them, and returns how many it took, or fails with a fault.
     fn store<N: Naming, R: Wait>(
         &self,
         rt: &R,
@@ -60,7 +61,7 @@ pub trait ScriptOps {
         ensures seat { IsSameSeat call.old call.new }
         ensures reference { has_reference call.new.phase ≡ true };
 
-    /// Takes the first text of a new file, under no call, or gives a fault.
+    /// Takes the first text of a new file, or fails with a fault. It runs under no call.
     fn first<R: Wait>(&self, rt: &R, tag: u64, bytes: &[u8]) -> Result<(), Fault>
         ensures begun { may_begin self.now tag bytes.now result };
 }

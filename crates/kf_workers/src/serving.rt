@@ -1,4 +1,4 @@
-//! Which callbacks serve a file: its tag says.
+//! Chooses the callbacks that serve a file, by its tag.
 
 use crate::script_ops::ScriptOps;
 use kf_files::{Fault, Page, WaitOps};
@@ -6,11 +6,11 @@ use kf_shared::{Naming, SharedTree};
 use kf_words::Call;
 use std::sync::Wait;
 
-/// The lowest tag of a device's file. Lower ones are those of the files that scripts make.
+/// The lowest tag of a device's file. Lower tags are those of the files that scripts make.
 pub const FIRST_DEVICE_TAG: u64 = 1 << 63;
 
-/// The callbacks of all files of a run: those of scripts' files by the one, those of devices' files by the
-/// other.
+/// The callbacks of all files of a run: `texts` serves the files that scripts make, and `devices` serves
+/// those of devices.
 #[derive(Drop)]
 pub struct Serving<'a, W, B> {
     pub texts: &'a W,

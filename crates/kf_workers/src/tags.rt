@@ -1,4 +1,5 @@
-//! The tags of the files that a seat makes: no other seat gives them, and this one gives each once.
+//! The tags of the files that a seat makes. No other seat hands these tags out, and this seat hands out each
+//! of them once.
 
 ghost use Rattle.std.specs.Prelude.{◌≡◌, ◌≤◌, ◌<◌, ◌+◌, ℕ, IfOk, IfErr};
 ghost use Rattle.kf_core.specs.declared.refusal.Refusal.TheVariants.{NoSpace};
@@ -7,12 +8,12 @@ ghost use Rattle.kf_workers.specs.TagRanges.{IsTagOf, first_tag};
 use crate::serving::FIRST_DEVICE_TAG;
 use kf_core::Refusal;
 
-/// How many tags each seat has: of 17 seats all are below those of devices.
+/// How many tags each seat has. All tags of 17 seats are below those of devices.
 const TAGS_OF_A_SEAT: u64 = 1 << 58;
 
 const _: () = prove!(17 * TAGS_OF_A_SEAT <= FIRST_DEVICE_TAG);
 
-/// The tags of one seat that it has not given yet: from `next` on, below `end`.
+/// The tags that one seat has not handed out yet: from `next` on, below `end`.
 #[derive(Drop)]
 pub struct Tags {
     next: u64,
@@ -21,7 +22,7 @@ pub struct Tags {
 }
 
 impl Tags {
-    /// All tags of the seat of this number, 0 to 16.
+    /// All tags of the seat with this number, 0 to 16.
     ///
     /// Condition: the seat is one of 0 to 16.
     pub fn of_seat(seat: u64) -> Tags
@@ -35,7 +36,7 @@ impl Tags {
         }
     }
 
-    /// The next tag, which is given only once. `NoSpace` if all were given.
+    /// Hands out the next tag. No tag is handed out twice. It fails with `NoSpace` if no tag is left.
     pub fn give(&mut self) -> Result<u64, Refusal>
         ensures given { IfOk result (λ tag. (tag ≡ self.old.next) × (tag < self.old.end)
             × (self.new.next ≡ tag + 1)) }
@@ -52,7 +53,7 @@ impl Tags {
     }
 }
 
-/// No tag is of two seats. It does nothing.
+/// A law: no tag belongs to two seats. The function does nothing.
 pub fn seats_share_no_tag()
     ensures { (one other tag : ℕ) → IsTagOf one tag → IsTagOf other tag → one ≡ other }
 {}

@@ -1,4 +1,4 @@
-//! The replies that only this board gives in this way.
+//! Writes what a function returned into a reply, in the forms that only this board uses.
 
 ghost use Rattle.std.specs.Prelude.{◌≡◌, ◌≤◌, length, IfOk};
 ghost use Rattle.kf_workers.specs.Told.{changed_told, done_told, key_told, read_told, stat_told};
@@ -9,7 +9,7 @@ use kf_replies::{tell_error, tell_stat};
 use kf_script::Reply;
 use kf_tree::Stat;
 
-/// Writes that it is done, or why not.
+/// Writes `ok`, or the refusal.
 pub fn tell_done(reply: &mut Reply, told: Result<(), Refusal>)
     ensures { reply.new ≡ done_told told }
 {
@@ -29,7 +29,7 @@ pub fn tell_key(reply: &mut Reply, told: Result<Key, FileError>)
     }
 }
 
-/// Writes whether a file has changed, or why that is not known.
+/// Writes whether a file has changed, or the refusal.
 pub fn tell_changed(reply: &mut Reply, told: Result<bool, Refusal>)
     ensures { reply.new ≡ changed_told told }
 {
@@ -39,9 +39,9 @@ pub fn tell_changed(reply: &mut Reply, told: Result<bool, Refusal>)
     }
 }
 
-/// Writes the bytes that were read to the front of a buffer, or why there are none.
+/// Writes the bytes that a read put at the front of a buffer, or why there are none.
 ///
-/// Conditions: the buffer has at most 4,096 bytes, and not more were read than it has.
+/// Conditions: the buffer has at most 4,096 bytes, and at most as many bytes were read as it has.
 pub fn tell_read(reply: &mut Reply, told: Result<usize, FileError>, out: &[u8])
     requires fits { IfOk told (λ count. count ≤ length out.now) }
     requires page { length out.now ≤ 4096 }
@@ -53,7 +53,7 @@ pub fn tell_read(reply: &mut Reply, told: Result<usize, FileError>, out: &[u8])
     }
 }
 
-/// Writes what `stat` says of a node, or why nothing.
+/// Writes what `stat` reports of a node, or the refusal.
 pub fn tell_seen(reply: &mut Reply, told: Result<Stat, Refusal>)
     ensures { reply.new ≡ stat_told told }
 {

@@ -17,22 +17,23 @@ use std::alloc::{AllocError, Global};
 use std::collections::BTreeMap;
 use std::sync::{Mutex, Wait};
 
-/// How many shelves there are. Tags are given one after the other, so files that are made after one another
-/// lie on different shelves.
+/// How many shelves there are. Tags are handed out one after another, so the texts of files that are made one
+/// after another lie on different shelves.
 const SHELVES: u64 = 256;
 
 /// The texts of some of the tags, behind a separate lock.
 #[derive(Drop)]
 struct Shelf {
     texts: Mutex<BTreeMap<u64, Vec<u8>>>,
-    // Two cache lines between the locks of two shelves, which different threads take at once.
+    // Keeps the locks of two shelves two cache lines apart, since different threads take them at the same
+    // time.
     apart: [u64; 16],
 }
 
 /// The texts of files by tag, and the callbacks that show and store them. Any number of threads may share it.
 ///
 /// A text lies on the shelf of its tag. A shelf's lock is held only while a text is copied, put in place or
-/// unlocked; nobody waits meanwhile for anything else, and nobody takes two of these locks.
+/// freed. A thread that holds it waits for nothing else, and no thread holds two of these locks.
 #[derive(Drop)]
 pub struct Texts {
     alloc: Global,
@@ -40,7 +41,7 @@ pub struct Texts {
     ghost all: { vec_len shelves ≡ 256 },
 }
 
-/// No file has this tag.
+/// The fault if no file has this tag (`EINVAL`).
 fn no_file() -> Fault
     ensures { result.number ≡ 22 }
 {
@@ -60,7 +61,7 @@ fn fill(page: &mut Page, text: &[u8]) {
 }
 
 impl Shelf {
-    /// No text.
+    /// A shelf without texts.
     fn new(alloc: Global) -> Shelf {
         Shelf {
             texts: Mutex::new(BTreeMap::new(alloc)),
@@ -82,7 +83,7 @@ fn new_shelves(alloc: Global) -> Result<Vec<Shelf>, AllocError>
 }
 
 impl Texts {
-    /// No text of any file. `NoMemory` if it could not be had.
+    /// No texts yet. It fails with `NoMemory` if memory was refused.
     pub fn new(alloc: Global) -> Result<Texts, Refusal>
         ensures refused { IfErr result (λ refusal. refusal ≡ NoMemory) }
     {
@@ -92,7 +93,7 @@ impl Texts {
         }
     }
 
-    /// The texts among which that of a tag lies.
+    /// The texts on the shelf of a tag.
     fn shelf(&self, tag: u64) -> &Mutex<BTreeMap<u64, Vec<u8>>> {
         &self.shelves[(tag % SHELVES) as usize].texts
     }
@@ -105,8 +106,8 @@ impl ScriptOps for Texts {
 
     ghost may_begin = { λ _ _ _. BeginsUnlessFull };
 
-    /// Fills the page with the first 4,096 bytes of the text. Fault 22 if the tag has none. The call keeps
-    /// its reference all the while.
+    /// Fills the page with the first 4,096 bytes of the text. It fails with fault 22 if the tag has no text.
+    /// The call keeps its reference throughout.
     fn show<N: Naming, R: Wait>(
         &self,
         rt: &R,
@@ -135,8 +136,8 @@ impl ScriptOps for Texts {
         }
     }
 
-    /// Puts the bytes in place of the whole text, and returns their number. Fault 12 if memory was
-    /// refused, 22 if the tag has no text. The call keeps its reference all the while.
+    /// Replaces the whole text with the bytes, and returns their number. It fails with fault 12 if memory was
+    /// refused, and with fault 22 if the tag has no text. The call keeps its reference throughout.
     fn store<N: Naming, R: Wait>(
         &self,
         rt: &R,
@@ -169,8 +170,8 @@ impl ScriptOps for Texts {
         }
     }
 
-    /// Keeps the text of a new file, in place of an earlier one under the tag. Fault 12 if memory was
-    /// refused.
+    /// Keeps the text of a new file, in place of an earlier text under the same tag. It fails with fault 12
+    /// if memory was refused.
     fn first<R: Wait>(&self, rt: &R, tag: u64, bytes: &[u8]) -> Result<(), Fault> {
         let Ok(copy) = bytes.to_vec(self.alloc) else {
             return Err(no_memory());

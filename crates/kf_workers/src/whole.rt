@@ -1,4 +1,4 @@
-//! A script read whole, run by many, and its replies written.
+//! Reads a whole script, runs it with workers, and writes its replies.
 
 ghost use Rattle.std.specs.Prelude.{◌≤◌, IfErr, OnOk};
 ghost use Rattle.kf_workers.specs.RanWhole.{RanWhole, StoppedWhole};
@@ -13,16 +13,16 @@ use std::io::{Read, Write};
 use std::sync::Wait;
 use std::thread::Threads;
 
-/// Reads a script to its end, runs it by its owner and 1 to 16 workers on a new tree, as [`run_workers`]
-/// does, and then writes its replies. The texts of its files are kept by [`Texts`].
+/// Reads a script to its end, runs it as [`run_workers`] does, and then writes its replies. The run is that
+/// of an owner and 1 to 16 workers, on a new tree. [`Texts`] keeps the texts of its files.
 ///
-/// It may never return, as `run_workers` may not.
+/// Like `run_workers`, it may never return.
 ///
 /// Condition: there are 1 to 16 workers.
 ///
-/// Faults, with nothing written except after `Write`: `Read`, as of [`read_script`]; `Memory`, if memory was
-/// refused for the script, the texts, the boards or the replies; `Write`, if a call of write failed or
-/// took no byte.
+/// Faults: `Read`, for the causes that [`read_script`] names; `Memory`, if memory was refused for the script,
+/// the texts, the tree, the boards or the replies; `Write`, if a call of write failed or took no byte. Unless
+/// the fault is `Write`, nothing was written.
 #[tactic(auto, using(crate::proofs::Written::kept_whole))]
 pub fn run_whole<H: Threads + Wait + Sync, R: Read, W: Write>(
     rt: &H,

@@ -73,13 +73,13 @@ count_there cs c key slot from to q h ne =
     let b : tally (on slot q (caller key to)) ≡ 0 = ap tally (on_elsewhere key slot q to ne) in
     omega arith
 
--- what is counted of the callers on a slot after a caller of the key goes to another phase
+-- how many callers on a slot pass a test after a caller of the key has gone to another phase
 moved_count : (w : BareWorld) (c : ℕ) (key : Key) (from to : Phase) (q : Phase → Bool) (old new : ℕ) → IsCaller w c key from → old ≡ count_by (on key.slot q) w.callers → new + tally (q from) ≡ old + tally (q to) → new ≡ count_by (on key.slot q) (with_phase w c key to).callers
 moved_count w c key from to q old new was e h =
     let f : count_by (on key.slot q) (with_phase w c key to).callers + tally (q from) ≡ count_by (on key.slot q) w.callers + tally (q to) = count_here w.callers c key from to q was in
     omega arith
 
--- the counts after a caller of the key goes to another phase
+-- the counts after a caller of the key has gone to another phase
 pub phase_counted : (w : BareWorld) (c : ℕ) (key : Key) (from to : Phase) (counts : List Counts) (old new : Counts) → IsCaller w c key from → slice_get counts key.slot ≡ Some old →
     new.holds + tally (not (is_spent from)) ≡ old.holds + tally (not (is_spent to)) → new.references + tally (has_reference from) ≡ old.references + tally (has_reference to) →
     new.hiders + tally (is_hiding from) ≡ old.hiders + tally (is_hiding to) →
@@ -98,7 +98,7 @@ phase_counted w c key from to counts old new was is h r i counted slot n there =
   )
 ]
 
--- what is counted after a pin of the key
+-- how many callers on a slot pass a test after a pin of the key
 pinned_here : (w : BareWorld) (key : Key) (q : Phase → Bool) (old new : ℕ) → old ≡ count_by (on key.slot q) w.callers → new ≡ old + tally (q Still) → new ≡ count_by (on key.slot q) (with_caller w key).callers
 pinned_here w key q old new e h =
     let f : count_by (on key.slot q) (with_caller w key).callers ≡ count_by (on key.slot q) w.callers + tally (on key.slot q (caller key Still)) = count_push (on key.slot q) w.callers (caller key Still) in
@@ -128,7 +128,7 @@ pinned_counted w key counts old new is h r i counted slot n there = elim (after_
   )
 ]
 
--- the count of a slot is at least the share of each caller on it
+-- the count of a slot is at least what any one caller on it adds
 pub share : (cs : List Caller) (c : ℕ) (key : Key) (p : Phase) (q : Phase → Bool) → slice_get cs c ≡ Some (caller key p) → tally (q p) ≤ count_by (on key.slot q) cs
 share cs c key p q h = elim (q p) as (λ b. q p ≡ b → tally b ≤ count_by (on key.slot q) cs) [
   | false ↦ λ _. omega arith
@@ -142,7 +142,7 @@ share cs c key p q h = elim (q p) as (λ b. q p ≡ b → tally b ≤ count_by (
 not_spent_last : (w : BareWorld) → Safe w → (c : ℕ) (x : Caller) → slice_get w.callers c ≡ Some x → x.phase ≢ Spent → IsLast w x.key.slot x.key.generation
 not_spent_last w safe c x h ne = safe.held_last c x.key x.phase h ne
 
--- nobody is on a slot past the last
+-- past the last slot, each count that leaves out spent callers is 0
 pub past_none : (w : BareWorld) (slot : ℕ) (q : Phase → Bool) → Safe w → length w.slots ≤ slot → q Spent ≡ false → count_by (on slot q) w.callers ≡ 0
 past_none w slot q safe past none = count_zero (on slot q) w.callers (λ c x h. elim (eqb_tells x.key.slot slot) [
   | inl e ↦ elim (is_spent x.phase) as (λ b. is_spent x.phase ≡ b → on slot q x ≡ false) [
@@ -170,7 +170,7 @@ spent_unheld w slot only = count_zero (on slot (λ p. not (is_spent p))) w.calle
   | inr e ↦ ap (λ b. b && not (is_spent x.phase)) e.0
 ])
 
--- a caller that holds the slot of this last key holds the key
+-- a caller that holds a slot holds the last key of that slot
 pub holds_last : (w : BareWorld) (key : Key) (c : ℕ) (x : Caller) → Safe w → IsLast w key.slot key.generation → slice_get w.callers c ≡ Some x → x.phase ≢ Spent → x.key.slot ≡ key.slot → x.key ≡ key
 holds_last w key c x safe last h ne s =
     let l : IsLast w x.key.slot x.key.generation = not_spent_last w safe c x h ne in
@@ -180,7 +180,8 @@ holds_last w key c x safe last h ne s =
 reference_holds : (p : Phase) → has_reference p ≡ true → p ≢ Spent
 reference_holds p h e = let x : has_reference Spent ≡ true = subst (λ q. has_reference q ≡ true) e h in cc
 
--- the count of references to the slot of its last key says whether nobody has one to the node
+-- for the last key of a slot, the slot's count of references is 0 if and only if nobody has a reference to
+-- the node
 pub unused_exact : (w : BareWorld) (key : Key) → Safe w → IsLast w key.slot key.generation → ((references w key.slot ≡ 0) ↔ NoReference w key)
 unused_exact w key safe last = (
   (λ z c p h. sym (on_here key has_reference p) ∙ count_none (on key.slot has_reference) w.callers z c (caller key p) h),
@@ -193,7 +194,7 @@ unused_exact w key safe last = (
   ])),
 )
 
--- the count of holds of the slot of its last key says whether somebody holds the node
+-- for the last key of a slot, the slot's count of holds is above 0 if and only if somebody holds the node
 pub held_exact : (w : BareWorld) (key : Key) → Safe w → IsLast w key.slot key.generation → ((1 ≤ holds w key.slot) ↔ IsHeld w key)
 held_exact w key safe last = (
   (λ h. let r : Passing (on key.slot (λ p. not (is_spent p))) w.callers = count_some (on key.slot (λ p. not (is_spent p))) w.callers h in
@@ -209,7 +210,7 @@ held_exact w key safe last = (
       let t : tally (not (is_spent h.phase)) ≡ 1 = ap tally (held_told h.phase h.holds) in omega arith),
 )
 
--- the count of hiders of the slot of its last key says whether the key is hidden
+-- for the last key of a slot, the slot's count of hiders is above 0 if and only if the key is hidden
 pub hidden_exact : (w : BareWorld) (key : Key) → Safe w → IsLast w key.slot key.generation → ((1 ≤ hiders w key.slot) ↔ (is_hidden w key ≡ true))
 hidden_exact w key safe last = (
   (λ h. let r : Passing (on key.slot is_hiding) w.callers = count_some (on key.slot is_hiding) w.callers h in
@@ -226,7 +227,7 @@ not_true : (b : Bool) → ¬ (b ≡ true) → b ≡ false
 not_true true n = absurd (n refl)
 not_true false n = refl
 
--- if the count of hiders of the slot of its last key is 0, the key is shown
+-- for the last key of a slot, the slot's count of hiders is 0 if and only if the key is not hidden
 pub shown_exact : (w : BareWorld) (key : Key) → Safe w → IsLast w key.slot key.generation → nat_eq (hiders w key.slot) 0 ≡ not (is_hidden w key)
 shown_exact w key safe last =
     let exact = hidden_exact w key safe last in

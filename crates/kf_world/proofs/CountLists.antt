@@ -1,10 +1,10 @@
--- The list of the counts of slots.
+-- The list of the slots' counts: the counts of a slot that a caller holds are in the part that was written.
 use Rattle.std.proofs.Common.{ℕ, zero, suc, ◌<◌, ◌≤◌, List, [], ◌∷◌, ◌++◌, length, replicate, sym, subst, arith}
 use Rattle.std.proofs.lemmas.Option.{none-some, same_Some}
 use Rattle.kf_world.specs.declared.counts.Counts.{Counts}
 use Rattle.kf_world.specs.Counts.{IsHeldIn, no_counts}
 
--- a slot that a caller holds was written
+-- the counts of a slot that a caller holds were written
 pub held_written : (xs : List Counts) (n slot : ℕ) → IsHeldIn (xs ++ replicate n no_counts) slot → slot < length xs
 held_written [] zero slot held = absurd (none-some _ held.1)
 held_written [] (suc n) zero held =

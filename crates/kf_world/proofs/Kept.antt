@@ -1,4 +1,4 @@
--- What the world keeps beside its slots and callers is right after each kind of change.
+-- What the world keeps besides its slots and callers stays right after each kind of change.
 use Rattle.std.proofs.Common.{◌≡◌, ◌≢◌, inl, inr, ℕ, zero, suc, true, false, ◌+◌, ◌<◌, ◌≤◌, ◌-◌, ◌/◌, ◌^◌, List, [], ◌∷◌, ◌++◌, length, get_or, refl, ap, arith, slice_set, sym, ◌∙◌, subst, ◌↔◌, replicate}
 use Rattle.std.specs.Prelude.{slice_get, Option, Some, None, not}
 use Rattle.std.proofs.lemmas.Option.{same_Some, none-some, slice_get_within, slice_get-get_or, get_or_from_slice_get}
@@ -28,7 +28,7 @@ use Rattle.kf_core.proofs.Keeping.{caller, slot_state, step_keeps, one_key}
 use Rattle.kf_world.proofs.OneItem.{same_item}
 use Rattle.kf_world.proofs.CallerCounts.{phase_counted, pinned_counted, unheld_spent, spent_unheld, share, past_none, spent_is, held_told}
 
--- whether a slot of this state is free
+-- a slot is free if and only if it has no node, no holds, and a generation left
 pub free_exact : (w : BareWorld) (slot : ℕ) (state : SlotState) → slice_get w.slots slot ≡ Some state → (((state.marks ≡ None) × (state.generation < 2 ^ 32 - 1) × (holds w slot ≡ 0)) ↔ IsFree w slot)
 free_exact w slot state is = (
   (λ p. record { last = state.generation; unlinked = is ∙ ap (λ (m : Option NodeFlags). Some (slot_state state.generation m)) p.0; more = p.1; unheld = unheld_spent w slot p.2 }),
@@ -36,7 +36,7 @@ free_exact w slot state is = (
       (ap (λ (s : SlotState). s.marks) e, subst (λ n. n < 2 ^ 32 - 1) (sym (ap (λ (s : SlotState). s.generation) e)) f.more, spent_unheld w slot f.unheld)),
 )
 
--- a step of a caller leaves the other slots as they are
+-- a step of a caller makes no other slot free
 free_elsewhere : (w : BareWorld) (c : ℕ) (key : Key) (from to : Phase) (slot : ℕ) → IsCaller w c key from → slot ≢ key.slot → IsFree (with_phase w c key to) slot → IsFree w slot
 free_elsewhere w c key from to slot was ne f = record {
   last = f.last;
@@ -73,11 +73,11 @@ free_before w key slot f = record {
 pub slot_within : (w : BareWorld) (counts : List Counts) (hint : Hint) (c : ℕ) (key : Key) (p : Phase) → IsSoundWorld w counts hint → IsCaller w c key p → p ≢ Spent → key.slot < length w.slots
 slot_within w counts hint c key p kept was ne = let l : IsLast w key.slot key.generation = kept.safe.held_last c key p was ne in slice_get_within w.slots key.slot l.0 l.1
 
--- its block and its group have marks
+-- the block and the group of a slot in the list have marks
 pub block_within : (w : BareWorld) (counts : List Counts) (hint : Hint) (slot : ℕ) → IsSoundWorld w counts hint → slot < length w.slots → Covers hint.taken slot
 block_within w counts hint slot kept within = (omega (arith, kept.covered.0, within), omega (arith, kept.covered.1, within))
 
--- the counts of a slot have at least the share of each caller of it
+-- the counts of a slot are at least what any one of its callers adds
 pub own_share : (w : BareWorld) (counts : List Counts) (hint : Hint) (c : ℕ) (key : Key) (p : Phase) (n : Counts) → IsSoundWorld w counts hint → IsCaller w c key p → slice_get counts key.slot ≡ Some n → (tally (not (is_spent p)) ≤ n.holds) × (tally (has_reference p) ≤ n.references) × (tally (is_hiding p) ≤ n.hiders)
 own_share w counts hint c key p n kept was is = (
   subst (λ x. tally (not (is_spent p)) ≤ x) (sym (kept.counted key.slot n is).0) (share w.callers c key p (λ p. not (is_spent p)) was),
@@ -85,7 +85,7 @@ own_share w counts hint c key p n kept was is = (
   subst (λ x. tally (is_hiding p) ≤ x) (sym (kept.counted key.slot n is).2) (share w.callers c key p is_hiding was),
 )
 
--- and at most the number of all callers
+-- the counts of a slot are at most the number of all callers
 pub few_counts : (w : BareWorld) (counts : List Counts) (hint : Hint) (slot : ℕ) (n : Counts) → IsSoundWorld w counts hint → slice_get counts slot ≡ Some n → (n.holds ≤ length w.callers) × (n.references ≤ length w.callers) × (n.hiders ≤ length w.callers)
 few_counts w counts hint slot n kept is = (
   subst (λ x. x ≤ length w.callers) (sym (kept.counted slot n is).0) (count_by-le-length _ w.callers),
@@ -93,7 +93,7 @@ few_counts w counts hint slot n kept is = (
   subst (λ x. x ≤ length w.callers) (sym (kept.counted slot n is).2) (count_by-le-length _ w.callers),
 )
 
--- a caller that waits, that has a reference, that a release ends: what it counts as
+-- what a caller counts as: one that waits, one that has a reference, and one that may release its hold
 pub waiting_counts : (p : Phase) → is_waiting p ≡ true → CountsAs Still p
 waiting_counts Still h = (refl, refl, refl)
 waiting_counts Turned h = (refl, refl, refl)
@@ -130,19 +130,19 @@ release_counts Hiding h = cc
 release_counts Hidden h = cc
 release_counts Spent h = cc
 
--- a caller on the key counts as one in this phase
+-- a caller on the key counts like one in this phase
 abbrev pub CountsFrom : BareWorld → ℕ → Key → Phase → Type 0
 CountsFrom w c key from = (was : Phase) × IsCaller w c key was × CountsAs from was
 
--- a caller that is counted as a holder holds
+-- a caller that counts as a holder is not spent
 still_held : (from was : Phase) → CountsAs from was → from ≢ Spent → was ≢ Spent
 still_held from was like held e = held (spent_is from (like.0 ∙ ap is_spent e))
 
--- its slot is in the list
+-- the slot of such a caller is in the list
 pub held_within : (w : BareWorld) (counts : List Counts) (hint : Hint) (c : ℕ) (key : Key) (from : Phase) → IsSoundWorld w counts hint → CountsFrom w c key from → from ≢ Spent → key.slot < length w.slots
 held_within w counts hint c key from kept there held = slot_within w counts hint c key there.0 kept there.1 (still_held from there.0 there.2 held)
 
--- the counts of its slot say that it is held
+-- the counts of such a caller's slot say that the slot is held
 pub counts_held : (w : BareWorld) (counts : List Counts) (hint : Hint) (c : ℕ) (key : Key) (from : Phase) → IsSoundWorld w counts hint → CountsFrom w c key from → from ≢ Spent → IsHeldIn counts key.slot
 counts_held w counts hint c key from kept there held =
     let within : key.slot < length counts = (let i = held_within w counts hint c key from kept there held in let e : length counts ≡ length w.slots = kept.as_long in omega (arith, i)) in
@@ -152,7 +152,8 @@ counts_held w counts hint c key from kept there held =
     let one : tally (not (is_spent there.0)) ≡ 1 = ap tally (held_told there.0 (still_held from there.0 there.2 held)) in
     (n, is, omega arith)
 
--- the counts that were read are those of the slot: they count the caller, and at most all callers
+-- the counts that were read are those of the slot: they include the caller, and at most all callers have
+-- references or hide
 pub record CountsAt (counts : List Counts) (slot : ℕ) (n : Counts) (from : Phase) (callers : ℕ) : Type 0 where
   pub found : slice_get counts slot ≡ Some n
   pub holds : tally (not (is_spent from)) ≤ n.holds
@@ -176,16 +177,16 @@ counts_at w counts hint c key from n kept there held read =
       few_hiders = few.2;
     }
 
--- the key of a caller that was read
+-- the caller that was read has this key
 pub key_read : (cs : List Caller) (id : ℕ) (x : Caller) (key : Key) (p : Phase) → x ≡ get_or cs id x → slice_get cs id ≡ Some (caller key p) → x.key ≡ key
 key_read cs id x key p is there = ap (λ (c : Caller). c.key) (is ∙ get_or_from_slice_get cs id (caller key p) x there)
 
--- each slot that is skipped was skipped before
+-- each slot that is skipped now was skipped before, and there are as many marks
 pub record Fewer (now before : Hint) : Type 0 where
   pub skips : (slot : ℕ) → Skips now.lowest now.taken slot → Skips before.lowest before.taken slot
   pub as_many : AsMany before.taken now.taken
 
--- after a step of a caller on the key
+-- the world stays sound after a step of a caller on the key
 pub phase_kept : (w : BareWorld) (c : ℕ) (key : Key) (from to : Phase) (counts : List Counts) (old new : Counts) (state : SlotState) (hint hint' : Hint) →
     IsSoundWorld w counts hint → (e : Event) → BareStep w e (with_phase w c key to) → CountsFrom w c key from → slice_get counts key.slot ≡ Some old → slice_get w.slots key.slot ≡ Some state →
     new.holds + tally (not (is_spent from)) ≡ old.holds + tally (not (is_spent to)) → new.references + tally (has_reference from) ≡ old.references + tally (has_reference to) →
@@ -211,7 +212,8 @@ phase_kept w c key from to counts old new state hint hint' kept e step there is 
       ];
     }
 
--- if the caller still holds the slot, it is not free after the step, and the search skips the same slots
+-- if the caller still holds the slot, the slot is not free after the step, so the world stays sound with the
+-- same slots to skip
 pub held_kept : (w : BareWorld) (c : ℕ) (key : Key) (from to : Phase) (counts : List Counts) (old new : Counts) (hint : Hint) →
     IsSoundWorld w counts hint → (e : Event) → BareStep w e (with_phase w c key to) → CountsFrom w c key from → from ≢ Spent → is_spent to ≡ false → CountsAt counts key.slot old from (length w.callers) →
     new.holds + tally (not (is_spent from)) ≡ old.holds + tally (not (is_spent to)) → new.references + tally (has_reference from) ≡ old.references + tally (has_reference to) →
@@ -225,7 +227,7 @@ held_kept w c key from to counts old new hint kept e step there held still at h 
     phase_kept w c key from to counts old new last.0 hint hint kept e step there at.found last.1 h r i (record { skips = λ slot s. s; as_many = (refl, refl) })
     (λ free. let none : new.holds ≡ 0 = free.2 in omega arith)
 
--- after a change of the marks of the key
+-- the world stays sound after a change of the key's marks, if the slot is not free after it
 pub marks_kept : (w : BareWorld) (key : Key) (m : Option NodeFlags) (counts : List Counts) (hint : Hint) → IsSoundWorld w counts hint → (e : Event) → BareStep w e (with_marks w key m) → ¬ IsFree (with_marks w key m) key.slot → IsSoundWorld (with_marks w key m) counts hint
 marks_kept w key m counts hint kept e step taken =
     let l : length (with_marks w key m).slots ≡ length w.slots = length-set w.slots key.slot (slot_state key.generation m) in
@@ -241,7 +243,7 @@ marks_kept w key m counts hint kept e step taken =
       ];
     }
 
--- after a pin of the key
+-- the world stays sound after a pin of the key
 pub pinned_kept : (w : BareWorld) (key : Key) (counts : List Counts) (old new : Counts) (hint : Hint) → IsSoundWorld w counts hint → (e : Event) → BareStep w e (with_caller w key) → slice_get counts key.slot ≡ Some old → new.holds ≡ old.holds + 1 → new.references ≡ old.references + 0 → new.hiders ≡ old.hiders + 0 → IsSoundWorld (with_caller w key) (slice_set counts key.slot new) hint
 pinned_kept w key counts old new hint kept e step is h r i = record {
   safe = step_keeps w e (with_caller w key) kept.safe step;
@@ -252,13 +254,14 @@ pinned_kept w key counts old new hint kept e step is h r i = record {
   skipped = λ slot one s f. kept.skipped slot one s (free_before w key slot f);
 }
 
--- past the last slot nobody is on the slot
+-- past the last slot, all counts are 0
 pub past_kept : (w : BareWorld) (counts : List Counts) (hint : Hint) (slot : ℕ) → IsSoundWorld w counts hint → length counts ≤ slot → (0 ≡ holds w slot) × (0 ≡ references w slot) × (0 ≡ hiders w slot)
 past_kept w counts hint slot kept past =
     let out : length w.slots ≤ slot = (let e : length counts ≡ length w.slots = kept.as_long in omega arith) in
     (sym (past_none w slot (λ p. not (is_spent p)) kept.safe out refl), sym (past_none w slot has_reference kept.safe out refl), sym (past_none w slot is_hiding kept.safe out refl))
 
--- no slot below the end of the skipped ones is free
+-- if no slot below `low` is free, and all slots from `low` to `high` are skipped, no slot below `high` is
+-- free
 pub none_skipped : (w : BareWorld) (counts : List Counts) (hint : Hint) (low high : ℕ) → IsSoundWorld w counts hint → NoneFree w low → ((slot : ℕ) → low ≤ slot → slot < high → Skips hint.lowest hint.taken slot) → NoneFree w high
 none_skipped w counts hint low high kept passed skips slot one below free = elim (leb_tells low slot) [
   | inl m ↦ kept.skipped slot one (skips slot m.1 below) free
@@ -280,26 +283,26 @@ other_holds w key state safe is ne h =
     let l : IsLast w key.slot key.generation = safe.held_last h.caller key h.phase h.there h.holds in
     ne (ap (λ (s : SlotState). s.generation) (same_Some _ _ (sym is ∙ l.1)) ∙ l.2)
 
--- a slot with a linked node, or a holder, is not free
+-- a slot that has a linked node or a holder is not free
 pub linked_taken : (w : BareWorld) (slot : ℕ) (state : SlotState) (m : NodeFlags) → slice_get w.slots slot ≡ Some state → state.marks ≡ Some m → ¬ IsFree w slot
 linked_taken w slot state m is linked f = none-some m (ap (λ (s : SlotState). s.marks) (same_Some _ _ (sym f.unlinked ∙ is)) ∙ linked)
 
 pub held_taken : (w : BareWorld) (slot c : ℕ) (key : Key) (p : Phase) → IsCaller w c key p → key.slot ≡ slot → p ≢ Spent → ¬ IsFree w slot
 held_taken w slot c key p was s ne f = ne (f.unheld c key p was s)
 
--- the state of a free slot
+-- the state of a free slot has the slot's last generation, which is below 2 ^ 32 - 1
 pub free_state : (w : BareWorld) (slot : ℕ) (state : SlotState) (free : IsFree w slot) → slice_get w.slots slot ≡ Some state → (state.generation ≡ free.last) × (state.generation < 2 ^ 32 - 1)
 free_state w slot state free is =
     let e : state.generation ≡ free.last = ap (λ (s : SlotState). s.generation) (same_Some _ _ (sym is ∙ free.unlinked)) in (e, subst (λ n. n < 2 ^ 32 - 1) (sym e) free.more)
 
--- a key whose slot is not in the list, or has another last generation, is not its last
+-- a key whose slot is not in the list, or has another last generation, is not the last key of its slot
 pub none_last : (w : BareWorld) (key : Key) → length w.slots ≤ key.slot → ¬ IsLast w key.slot key.generation
 none_last w key past l = let i : key.slot < length w.slots = slice_get_within w.slots key.slot l.0 l.1 in omega arith
 
 pub other_last : (w : BareWorld) (key : Key) (state : SlotState) → slice_get w.slots key.slot ≡ Some state → state.generation ≢ key.generation → ¬ IsLast w key.slot key.generation
 other_last w key state is ne l = ne (ap (λ (s : SlotState). s.generation) (same_Some _ _ (sym is ∙ l.1)) ∙ l.2)
 
--- the opening world has no callers
+-- the opening world, which has no callers, is sound
 pub opening_kept : (slots start : ℕ) (counts : List Counts) (hint : Hint) → slots ≤ most_slots → counts ≡ replicate slots (record { holds = 0; references = 0; hiders = 0 }) →
     ((slot : ℕ) → 1 ≤ slot → ¬ Skips hint.lowest hint.taken slot) → Covers hint.taken slots → IsSoundWorld (opening slots start) counts hint
 opening_kept slots start counts hint few is looks covered =

@@ -1,9 +1,9 @@
--- Lists that are made of one item.
+-- Lists that repeat one item.
 use Rattle.std.proofs.Common.{◌≡◌, ℕ, zero, suc, List, refl, ap, sym, ◌∙◌, get_or, replicate}
 use Rattle.std.specs.Prelude.{slice_get, Some}
 use Rattle.std.proofs.lemmas.Option.{same_Some, none-some}
 
--- all items of a list of one item are that item
+-- each item of a list that repeats one item is that item
 pub same_item : {X : Type 0} (n i : ℕ) (x y : X) → slice_get (replicate n x) i ≡ Some y → y ≡ x
 same_item zero i x y h = absurd (none-some y h)
 same_item (suc n) zero x y h = sym (same_Some _ _ h)

@@ -1,4 +1,4 @@
--- Tries for a reference in the world of a single caller, their ends, and visits.
+-- Tries for a reference in the world of a single caller, the ends of calls, and whole visits.
 use Rattle.std.proofs.Common.{◌≡◌, ℕ, zero, suc, List, [], ◌∷◌, refl, ap, sym, subst, ◌∙◌, Bool, true, false}
 use Rattle.std.specs.Prelude.{slice_set, Some, None, IsTrue, IsFalse, if◌then◌else◌}
 use Rattle.std.proofs.lemmas.Option.{slice_get_within}
@@ -16,17 +16,17 @@ use Rattle.kf_world.specs.declared.world_guard.WorldCall.{WorldCall}
 use Rattle.kf_core.proofs.Lists.{slice_get-set_same}
 use Rattle.kf_core.proofs.Keeping.{one_key}
 
--- a list keeps the last of two writes to one place
+-- of two writes to one place of a list, the last one stays
 pub slice_set-set : {X : Type 0} (xs : List X) (i : ℕ) (v u : X) → slice_set (slice_set xs i v) i u ≡ slice_set xs i u
 slice_set-set [] i v u = refl
 slice_set-set (x ∷ xs) zero v u = refl
 slice_set-set (x ∷ xs) (suc i) v u = ap (λ ys. x ∷ ys) (slice_set-set xs i v u)
 
--- a world is its slots and callers, and its limit
+-- a bounded world is determined by its slots and callers, and its limit
 pub same_bounded : (w : BoundedWorld) (world : BareWorld) (limit : ℕ) → w.world ≡ world → w.limit ≡ limit → w ≡ bounded world limit
 same_bounded w world limit is lim = ap (λ v. bounded v w.limit) is ∙ ap (bounded world) lim
 
--- the caller after a step that moved it
+-- after a step that changed its phase, the caller has the new phase
 pub put_there : (w : BareWorld) (id : ℕ) (key : Key) (from to : Phase) → IsCaller w id key from → IsCaller (with_phase w id key to) id key to
 put_there w id key from to there = slice_get-set_same w.callers id _ (slice_get_within w.callers id _ there)
 
@@ -37,7 +37,7 @@ may_enter w id key phase there waits = (_, (key, phase, there, waits, refl))
 pub may_leave : (w : BoundedWorld) (id : ℕ) (key : Key) (phase : Phase) → IsCaller w.world id key phase → IsTrue (has_reference phase) → May w (Leave id)
 may_leave w id key phase there has = (_, (key, phase, there, has, refl))
 
--- the world after a try, and after an end
+-- the world after a try, and after the end of a call
 pub after_enter : (w w' : BoundedWorld) (id : ℕ) (key : Key) (phase : Phase) → IsCaller w.world id key phase → Happens w (Enter id) w' → w'.world ≡ with_phase w.world id key (if is_live w.world key then Running else Turned)
 after_enter w w' id key phase there happens =
     let step = happens.steps in
@@ -48,7 +48,7 @@ after_leave w w' id key phase there happens =
     let step = happens.steps in
     subst (λ k. w'.world ≡ with_phase w.world id k Still) (one_key w.world id step.0 key step.1 phase step.2 there).0 step.4
 
--- a try that knows whether the node is live
+-- the caller after a try, if it is known whether the node is live
 pub caller_after : (w w' : BoundedWorld) (id : ℕ) (key : Key) (phase : Phase) (live : Bool) → IsCaller w.world id key phase → Happens w (Enter id) w' → live ≡ is_live w.world key → IsCaller w'.world id key (if live then Running else Turned)
 caller_after w w' id key phase live there happens told =
     subst (λ v. IsCaller v id key (if live then Running else Turned)) (sym (after_enter w w' id key phase there happens ∙ ap (λ b. with_phase w.world id key (if b then Running else Turned)) (sym told)))
@@ -73,15 +73,15 @@ has_entered w w' id key phase happens told there = record {
   running = caller_after w w' id key phase true there happens (told key phase there);
 }
 
--- after a call that was given back, the same caller is running on the same key
+-- if a call was given back, the same caller is still running on the same key
 pub given_back_running : (w : BoundedWorld) (before after : CallView ℕ) → GivenBack before after → IsCaller w.world before.caller before.key Running → IsCaller w.world after.caller after.key Running
 given_back_running w before after back running = rw (back.caller, back.key) running
 
--- the phase of a caller is that of its last step
+-- after two steps of a caller, its phase is that of the second
 pub moved_twice : (w : BareWorld) (id : ℕ) (key : Key) (from to : Phase) → with_phase (with_phase w id key from) id key to ≡ with_phase w id key to
 moved_twice w id key from to = ap (λ callers. record { slots = w.slots; callers = callers }) (slice_set-set w.callers id _ _)
 
--- the world after a try of a caller with this key, if the try was refused
+-- the world after a refused try of a caller with this key
 pub after_turned : (w w' : BoundedWorld) (id : ℕ) (key : Key) (phase : Phase) → IsCaller w.world id key phase → HasTurned w id w' → IsFalse (is_live w.world key) × (w' ≡ bounded (with_phase w.world id key Turned) w.limit)
 after_turned w w' id key phase there turned =
     let came : w'.world ≡ with_phase w.world id key (if is_live w.world key then Running else Turned) = after_enter w w' id key phase there turned.step in
@@ -105,7 +105,7 @@ after_call w inside w' id key call_key phase there entered left =
     )
 
 module _ {Done : Type 0} (idle : Type 0) (does : Done → Type 0) where
-  -- a visit, as the guard describes it, is a visit with only the caller's steps
+  -- a visit, as the guard describes it, is a visit in which only the caller makes steps
   pub alone : (w w' : BoundedWorld) (id id' : ℕ) (key : Key) (phase : Phase) (visit : Visit Done) → IsCaller w.world id key phase
       → Visits (λ w id (call : WorldCall) w'. (call.caller ≡ id) × HasEntered w id call.key w') (λ w id back w'. (back ≡ id) × HasTurned w id w') (λ w call id w'. (id ≡ call.caller) × Happens w (Leave id) w') (λ call. record { caller = call.caller; key = call.key; phase = Running }) idle does w id w' id' visit
       → (id' ≡ id) × VisitsAlone w id key w' idle does visit

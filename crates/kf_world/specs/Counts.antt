@@ -22,7 +22,7 @@ with_hold c = record { holds = c.holds + 1; references = c.references; hiders = 
 abbrev pub IsHeldIn : List Counts → ℕ → Type 0
 IsHeldIn counts slot = (c : Counts) × (slice_get counts slot ≡ Some c) × (1 ≤ c.holds)
 
--- a caller is counted alike in the two phases
+-- a caller is counted the same way in the two phases
 abbrev pub CountsAs : Phase → Phase → Type 0
 CountsAs p q =
     (is_spent p ≡ is_spent q) × (has_reference p ≡ has_reference q) × (is_hiding p ≡ is_hiding q)
@@ -35,7 +35,7 @@ references w slot = count_by (λ c. (c.key.slot == slot) && has_reference c.phas
 abbrev pub hiders : BareWorld → ℕ → ℕ
 hiders w slot = count_by (λ c. (c.key.slot == slot) && is_hiding c.phase) w.callers
 
--- the counts of a slot
+-- these are the counts of the slot
 abbrev pub CountsAre : BareWorld → ℕ → Counts → Type 0
 CountsAre w slot c =
     (c.holds ≡ holds w slot) × (c.references ≡ references w slot) × (c.hiders ≡ hiders w slot)
@@ -44,12 +44,12 @@ CountsAre w slot c =
 abbrev pub IsCounted : BareWorld → List Counts → Type 0
 IsCounted w counts = (slot : ℕ) (c : Counts) → slice_get counts slot ≡ Some c → CountsAre w slot c
 
--- no slot from 1 up to this one is free
+-- no slot from 1 up to but not including this one is free
 abbrev pub NoneFree : BareWorld → ℕ → Type 0
 NoneFree w below = (slot : ℕ) → 1 ≤ slot → slot < below → ¬ IsFree w slot
 
--- the world is safe, the counts of its slots are exact, and the search for a free slot skips none that is
--- free
+-- the world is safe and has at most the greatest number of slots. There are exact counts, and room for marks,
+-- for each of its slots. From slot 1 up, the search for a free slot skips none that is free
 pub record IsSoundWorld (w : BareWorld) (counts : List Counts) (hint : Hint) : Type 0 where
   pub safe : Safe w
   pub few : length w.slots ≤ most_slots

@@ -8,13 +8,13 @@ use Rattle.kf_core.specs.Steps.{with_phase}
 use Rattle.kf_world.specs.Bounded.{BoundedWorld, bounded, Happens}
 use Rattle.kf_core.specs.Calls.{Visit, unvisited, tried}
 
--- the caller of this number tried for a reference to the node, which is live, and is running
+-- the caller with this number tried to take a reference to the node, which was live, and is then Running
 pub record HasEntered (w : BoundedWorld) (id : ℕ) (key : Key) (w' : BoundedWorld) : Type 0 where
   pub step : Happens w (Enter id) w'
   pub live : IsTrue (is_live w.world key)
   pub running : IsCaller w'.world id key Running
 
--- the caller of this number tried for a reference to its node, which is not live
+-- the caller with this number tried to take a reference to its node, which was not live, and is then Turned
 pub record HasTurned (w : BoundedWorld) (id : ℕ) (w' : BoundedWorld) : Type 0 where
   pub step : Happens w (Enter id) w'
   pub key : Key
@@ -22,8 +22,10 @@ pub record HasTurned (w : BoundedWorld) (id : ℕ) (w' : BoundedWorld) : Type 0 
   pub turned : IsCaller w'.world id key Turned
 
 module _ {Done : Type 0} where
-  -- a visit by the caller of this number on this key, with only its own steps: it was not made; or the node
-  -- is not live, and the caller is Turned; or the node is live, this was done, and the caller is Still
+  -- a visit to the node of this key by the caller with this number, in which only this caller made steps. If
+  -- it was not made, the world is as before; if the node was not live, the caller is then Turned; in both
+  -- cases `idle` holds. If the node was live, the caller is then Still, and what the visit did is as `does`
+  -- says
   abbrev pub VisitsAlone : BoundedWorld → ℕ → Key → BoundedWorld → Type 0 → (Done → Type 0) → Visit Done
       → Type 0
   VisitsAlone w id key w' idle does unvisited = (w' ≡ w) × idle

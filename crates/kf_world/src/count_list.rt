@@ -1,4 +1,4 @@
-//! The counts of each slot, in memory that is written only as far as slots were held.
+//! The counts of each slot, in memory that is written only up to the highest slot that was held.
 
 ghost use Rattle.std.specs.Prelude.{◌≡◌, ◌+◌, ◌-◌, ◌++◌, ◌<◌, ◌≤◌, ◌^◌, IfOk, IfErr, length, replicate, slice_get, slice_index_or, slice_set, vec_capacity};
 ghost use Rattle.kf_core.specs.declared.refusal.Refusal.TheVariants.{NoMemory};
@@ -10,8 +10,8 @@ use std::alloc::Global;
 use std::marker::Model;
 
 /// The counts of each slot. Memory for all of them is reserved when the list is made, so no later change
-/// needs memory. A slot that a caller holds was written, so its counts are read and changed in place.
-/// A `SlotList` would test first whether they were written.
+/// allocates. The counts of a slot that a caller holds were written, so they are read and changed in place.
+/// (A `SlotList` would first test whether they were written.)
 #[derive(Drop)]
 pub(crate) struct CountList {
     items: Vec<Counts>,
@@ -32,7 +32,7 @@ impl Model for CountList {
         (length list.items.items ≤ list.slots) × (list.slots ≤ vec_capacity list.items) };
 }
 
-/// Writes the counts up to this slot. Each has room.
+/// Writes counts without callers for the slots up to this one. There is room for them.
 #[inline(always)]
 fn reach(items: &mut Vec<Counts>, slots: usize, slot: usize)
     requires within { slot < slots }
@@ -50,7 +50,8 @@ fn reach(items: &mut Vec<Counts>, slots: usize, slot: usize)
 }
 
 impl CountList {
-    /// This many slots without callers. Fails with `NoMemory` if there is no memory for all of them.
+    /// The counts of this many slots without callers. Fails with `NoMemory` if there is no memory for all of
+    /// them.
     pub(crate) fn new(alloc: Global, slots: usize) -> Result<CountList, Refusal>
         ensures made { IfOk result (λ list. list ≡ replicate slots no_counts) }
         ensures refused { IfErr result (λ refusal. refusal ≡ NoMemory) }
@@ -84,7 +85,7 @@ impl CountList {
         self.items[slot]
     }
 
-    /// Puts counts in place of those of a slot that a caller holds.
+    /// Replaces the counts of a slot that a caller holds.
     #[inline(always)]
     pub(crate) fn set_held(&mut self, slot: usize, counts: Counts)
         requires held { IsHeldIn self.old slot }

@@ -38,7 +38,7 @@ impl Counts {
         }
     }
 
-    /// The counts without one caller, which was in this phase.
+    /// The counts after the removal of one caller, which was in this phase.
     pub(crate) fn without(self, phase: Phase) -> Counts
         requires holds { tally (not (is_spent phase)) ≤ self.holds }
         requires references { tally (has_reference phase) ≤ self.references }

@@ -23,14 +23,14 @@ mod search;
 mod slots;
 mod taken;
 
-/// Each slot with its last generation and marks, and each caller by its number. A pin adds a caller to its
-/// memory; all the rest is reserved when it is made.
+/// A world: each slot with its last generation and marks, and each caller by its number. Only a pin may
+/// allocate, for one more caller. All other memory is reserved when the world is made.
 #[derive(Drop)]
 pub struct World {
     slots: SlotList<SlotState>,
     callers: Vec<Caller>,
     limit: u32,
-    /// For each slot, so that no call walks the callers.
+    /// The counts of each slot, so that no call walks the callers.
     counts: CountList,
     /// Which slots the search for a free one skips.
     hint: Hint,
@@ -56,8 +56,9 @@ fn marks_at(slots: &SlotList<SlotState>, key: Key) -> Option<NodeFlags>
 }
 
 impl World {
-    /// A world with only the root, live, in slot 0, and no callers. Each slot's last generation is `start`,
-    /// and the root's is the next. Fails with `NoMemory` if there is no memory for all slots.
+    /// A world with no callers and only the root, which is live, in slot 0. Each slot's last generation is
+    /// `start`, except that the root has the next one. Fails with `NoMemory` if there is no memory for all
+    /// slots.
     ///
     /// Condition: `start` is at most 2^32 - 2.
     pub fn new_at(alloc: Global, limits: Limits, start: u32) -> Result<World, Refusal>
@@ -118,7 +119,7 @@ impl World {
         self.has_live_marks(key) && self.is_shown(key)
     }
 
-    /// Whether no caller hides the node, whose marks are live.
+    /// Whether no caller hides the node. Its marks are live.
     fn is_shown(&self, key: Key) -> bool
         requires live { IsTrue (are_live (marks self.now.world key)) }
         ensures { result ≡ not (is_hidden self.now.world key) }

@@ -10,8 +10,8 @@ ghost use Rattle.kf_world.specs.WorldGuard.{HasEntered, HasTurned};
 use crate::world::World;
 use kf_core::{ActiveCall, Guard, Key, Phase};
 
-/// The call of a caller in a `World`. It is Running from its start to its end: its callback does not have the
-/// world, so it cannot break its protection.
+/// The call of a caller in a `World`. It is Running from its start to its end, because its callback does not
+/// have the world and so cannot break its protection.
 ///
 /// Condition on the owner of the world: between `enter` and `leave` nobody calls `break_at`, `restore` or
 /// `leave` with this caller's number.

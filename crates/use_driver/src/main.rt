@@ -1,5 +1,5 @@
-//! A hardware monitor as its driver writes it: `/hwmon0` with the files of a temperature, and the group
-//! `power` in it. A thread reads while another writes, until the device is removed under both.
+//! A hardware monitor, as a driver writes it: `/hwmon0` has the files of a temperature, and the group
+//! `power`. One thread reads while another writes, until the device is removed under both.
 #![tactic(auto)]
 
 ghost use Rattle.std.specs.Prelude.{◌≡◌};
@@ -31,7 +31,7 @@ impl Show for Sensor {
     }
 }
 
-/// Reads until the device is gone, and returns how many texts were no temperature.
+/// Reads until the device is gone, and returns how many of the texts were not a temperature.
 fn reads<N: Naming, T: DriverTable, R: Wait>(
     rt: &R,
     tree: &SharedTree<N>,
@@ -50,7 +50,8 @@ fn reads<N: Naming, T: DriverTable, R: Wait>(
     wrong
 }
 
-/// Writes a thousand times, removes the device under its reader, and writes once more.
+/// Writes a thousand times, removes the device while the other thread reads, and writes once more. Returns
+/// whether every write succeeded except the last one.
 fn removes<N: Naming, T: DriverTable, R: Wait>(
     rt: &R,
     tree: &SharedTree<N>,
@@ -65,7 +66,7 @@ fn removes<N: Naming, T: DriverTable, R: Wait>(
     Ok(taken && file.write(rt, tree, driver, b"1\n").is_err())
 }
 
-/// Reads and writes a file by two threads, until its device is removed.
+/// Reads a file in one thread and writes it in another, until its device is removed.
 fn use_limit<N: Naming + Send + Sync, T: DriverTable + Sync, R: Threads + Wait + Sync>(
     rt: &R,
     tree: &SharedTree<N>,
@@ -82,7 +83,8 @@ fn use_limit<N: Naming + Send + Sync, T: DriverTable + Sync, R: Threads + Wait +
     Ok((wrong, taken?))
 }
 
-/// Makes the device's files, live all at once, raises the event number of one, and uses that file.
+/// Makes the device's files, which become live all at once. Raises the event number of one of them, and uses
+/// that file.
 fn run<N: Naming + Send + Sync, R: Threads + Wait + Print + Sync>(
     rt: &R,
     alloc: Global,

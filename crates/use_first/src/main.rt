@@ -1,4 +1,4 @@
-//! The first program: one thread calls into a file again and again, and another removes it meanwhile.
+//! The first program: one thread calls into a file again and again, while another thread removes it.
 #![tactic(auto)]
 
 ghost use Rattle.std.specs.Prelude.{◌≡◌};
@@ -45,7 +45,7 @@ fn call<N: Naming, R: Wait>(
     unreachable!()
 }
 
-/// Removes the fan while its file is called. Returns how many calls ran after the removal: none.
+/// Removes the fan while another thread calls its file. Returns how many calls ran after the removal: none.
 fn run<N: Naming + Send + Sync, R: Threads + Wait + Sync>(
     rt: &R,
     new: NewTree,
@@ -60,7 +60,7 @@ fn run<N: Naming + Send + Sync, R: Threads + Wait + Sync>(
         || call(rt, &tree, speed, &calls),
         || -> Result<u64, Refusal> {
             let receipts = tree.edit(rt).remove_path(rt, b"/fan0")?; // unlocks, waits for the calls
-            // Now no call runs, and none will ever start: here you free what the calls used.
+            // Now no call runs, and none will ever start. Here you free what the calls used.
             let before = calls.load(Ordering::SeqCst);
             release_all(receipts);
             Ok(before)

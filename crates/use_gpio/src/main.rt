@@ -1,6 +1,6 @@
-//! A chip of eight lines as its driver writes it: in `/gpio0` a directory for each line, with the switch
-//! `value`, the number `debounce`, the text `label` and the binary `config`. A thread waits for a line's
-//! `value` to change, while another stores it, until the chip is removed under them.
+//! A chip with eight lines, as a driver writes it. `/gpio0` has a directory for each line, with the switch
+//! `value`, the number `debounce`, the text `label` and the binary attribute `config`. One thread waits for a
+//! line's `value` to change, while another stores to it, until the chip is removed under both.
 #![tactic(auto)]
 
 ghost use Rattle.std.specs.Prelude.{◌≡◌};
@@ -32,7 +32,7 @@ fn waits<N: Naming, T: DriverTable, R: Wait>(
     let mut right = true;
     let mut out = [0u8; 2];
     for _ in rt.forever() {
-        file.wait_changed(rt); // asleep, with no reference, so that no removal waits for it
+        file.wait_changed(rt); // sleeps without a reference, so no removal waits for it
         match file.read(rt, tree, driver, 0, &mut out) {
             Err(FileError::Refused(_)) => break,
             Ok(2) => right &= out == *b"0\n" || out == *b"1\n",
@@ -42,7 +42,8 @@ fn waits<N: Naming, T: DriverTable, R: Wait>(
     right
 }
 
-/// Stores a thousand levels and some registers, and removes the chip, which wakes the thread that waits.
+/// Stores a thousand levels and writes some registers. Then it removes the chip, which wakes the thread that
+/// waits.
 fn stores<N: Naming, T: DriverTable, R: Wait>(
     rt: &R,
     tree: &SharedTree<N>,
@@ -67,8 +68,8 @@ fn stores<N: Naming, T: DriverTable, R: Wait>(
     Ok(right && value.write(rt, tree, driver, b"1\n").is_err())
 }
 
-/// Uses the fourth line by threads until the chip is gone, and returns whether each text was a level, and
-/// whether all was stored.
+/// Uses the fourth line in two threads until the chip is gone. Returns whether each text was a level, and
+/// whether everything was stored.
 fn uses<N: Naming + Send + Sync, T: DriverTable + Sync, R: Threads + Wait + Sync>(
     rt: &R,
     alloc: Global,
@@ -86,7 +87,7 @@ fn uses<N: Naming + Send + Sync, T: DriverTable + Sync, R: Threads + Wait + Sync
     Ok((levels, stored?))
 }
 
-/// Makes the chip's files, live all at once, and uses them until the chip is gone.
+/// Makes the chip's files, which become live all at once, and uses them until the chip is gone.
 fn run<N: Naming + Send + Sync, R: Threads + Wait + Print + Sync>(
     rt: &R,
     alloc: Global,

@@ -1,5 +1,5 @@
-//! A hot node: threads go in and out through its gate, each by its own lane, while the node is removed.
-//! When the removal returns, nobody is inside, and nobody comes in any longer.
+//! A hot node: threads go in and out through its gate, each in its own lane, while the node is removed.
+//! When the removal returns, nobody is inside, and nobody can get in.
 
 ghost use Rattle.std.specs.Prelude.{◌≡◌, IfOk};
 ghost use Rattle.kf_core.specs.declared.caller.Phase.TheVariants as phase_of;
@@ -19,7 +19,8 @@ use std::thread::{Threads, join};
 /// The number of a new gate's first opening.
 const FIRST: u64 = 1;
 
-/// What the threads share: whether the gate was opened or could not be, and how often each was inside.
+/// What the threads share: whether the gate was opened (or could not be), and how often each thread was
+/// inside.
 #[derive(Drop)]
 struct Counts {
     opened: AtomicU64,
@@ -27,7 +28,7 @@ struct Counts {
     second: AtomicU64,
 }
 
-/// Waits until something is counted.
+/// Waits until the count is no longer 0.
 fn wait_for<R: Wait>(rt: &R, count: &AtomicU64) {
     for _ in rt.forever() {
         if count.load(Ordering::SeqCst) != 0 {
@@ -36,7 +37,7 @@ fn wait_for<R: Wait>(rt: &R, count: &AtomicU64) {
     }
 }
 
-/// Goes in and out by a pass until it is refused: in here a callback would run.
+/// Goes in and out by a pass until the pass is refused. In between, a callback would run.
 fn call_until_refused<R: Wait>(rt: &R, mut pass: Pass, opened: &AtomicU64, calls: &AtomicU64) {
     wait_for(rt, opened);
     for _ in rt.forever() {
@@ -69,7 +70,7 @@ fn make_hot<N: Naming, R: Wait>(
     }
 }
 
-/// Removes the node with its gate, and returns how many nodes went.
+/// Removes the node and closes its gate. Returns how many nodes were removed.
 fn remove_hot<N: Naming, R: Wait>(
     rt: &R,
     alloc: Global,
@@ -126,7 +127,7 @@ fn remove_under_use<N: Naming, R: Wait>(
     remove_hot(rt, alloc, tree, node, keeper)
 }
 
-/// Three threads: two call, one removes.
+/// Runs three threads: two call, and one removes.
 fn remove_while_called<N: Naming + Send + Sync, R: Threads + Wait + Sync + Print>(
     rt: &R,
     alloc: Global,
@@ -170,7 +171,7 @@ fn run<N: Naming + Send + Sync, R: Threads + Wait + Sync + Print>(
     remove_while_called(rt, alloc, &new.named::<N>())
 }
 
-/// Makes the tree, and removes a hot node under use.
+/// Makes the tree, and removes a hot node while it is in use.
 pub(crate) fn start<R: Threads + Wait + Sync + Print>(rt: &R, alloc: Global) -> anyhow::Result<()> {
     let limits = Limits::new(16, 100).context("16 slots and 100 holds are within the limits")?;
     run::<Brand, _>(rt, alloc, SharedTree::<Brand>::new(alloc, limits)?)

@@ -1,5 +1,5 @@
-//! An object that many threads call, in two ways: by a gate in front of one node, and by twins, a node for
-//! each thread.
+//! An object that many threads call, built in two ways: with a gate in front of one node, and with twins,
+//! which are one node for each thread.
 #![tactic(auto)]
 
 mod hot;

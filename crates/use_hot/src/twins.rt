@@ -1,7 +1,7 @@
 //! Twins: an object is a directory that is not activated, with a live file for each thread. Each thread
-//! goes in and out by its own file, so no thread writes what another reads; one removal of the directory
-//! removes and drains them all. The files are entered by holds, and no listing and no path of readers leads
-//! to them.
+//! enters and leaves its own file, so no thread writes what another one reads. One removal of the directory
+//! removes and drains all the files. Threads enter the files through holds: no listing or path of a reader
+//! leads to them.
 
 ghost use Rattle.std.specs.Prelude.{◌≡◌};
 
@@ -14,13 +14,13 @@ use std::sync::Wait;
 use std::sync::atomic::{AtomicU64, Ordering};
 use std::thread::{Threads, join};
 
-/// A twin of the object.
+/// One twin of the object.
 const TWIN: Node = Node::File {
     mode: 0o444,
     tag: 1,
 };
 
-/// The object, which is not activated, and its two live twins.
+/// Creates the object, which is not activated, and its two live twins.
 fn publish<N: Naming, R: Wait>(rt: &R, tree: &SharedTree<N>) -> Result<(Key, Key, Key), Refusal> {
     let mut editor = tree.edit(rt);
     let root = editor.state().root();
@@ -30,7 +30,7 @@ fn publish<N: Naming, R: Wait>(rt: &R, tree: &SharedTree<N>) -> Result<(Key, Key
     Ok((object, first, second))
 }
 
-/// Goes in and out by a hold of the thread's twin, until it is refused: a callback would run inside.
+/// Enters and leaves the thread's twin by a hold, until a try is refused. A callback would run inside.
 fn call_until_refused<N: Naming, R: Wait>(
     rt: &R,
     tree: &SharedTree<N>,
@@ -59,7 +59,7 @@ fn call_until_refused<N: Naming, R: Wait>(
     unreachable!()
 }
 
-/// Waits until each of the two was inside, or had no hold.
+/// Waits until each of the two threads has been inside, or could not get a hold.
 fn wait_for_both<R: Wait>(rt: &R, first: &AtomicU64, second: &AtomicU64) {
     for _ in rt.forever() {
         if first.load(Ordering::SeqCst) != 0 && second.load(Ordering::SeqCst) != 0 {
@@ -68,7 +68,7 @@ fn wait_for_both<R: Wait>(rt: &R, first: &AtomicU64, second: &AtomicU64) {
     }
 }
 
-/// Removes the object with its twins, and returns how many nodes went.
+/// Removes the object with its twins. Returns how many nodes were removed.
 fn remove_under_use<N: Naming, R: Wait>(
     rt: &R,
     tree: &SharedTree<N>,
@@ -83,7 +83,7 @@ fn remove_under_use<N: Naming, R: Wait>(
     Ok(removed)
 }
 
-/// Three threads: two call, one removes.
+/// Runs three threads: two call, and one removes.
 fn remove_while_called<N: Naming + Send + Sync, R: Threads + Wait + Sync + Print>(
     rt: &R,
     tree: &SharedTree<N>,
@@ -118,7 +118,7 @@ fn run<N: Naming + Send + Sync, R: Threads + Wait + Sync + Print>(
     remove_while_called(rt, &new.named::<N>())
 }
 
-/// Makes the tree, and removes an object of two twins under use.
+/// Makes the tree, and removes an object with two twins while it is in use.
 pub(crate) fn start<R: Threads + Wait + Sync + Print>(rt: &R, alloc: Global) -> anyhow::Result<()> {
     let limits = Limits::new(16, 100).context("16 slots and 100 holds are within the limits")?;
     run::<Brand, _>(rt, SharedTree::<Brand>::new(alloc, limits)?)

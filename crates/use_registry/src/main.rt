@@ -1,5 +1,6 @@
 //! A registry of plug-ins: four threads call the plug-in `/adder` by its path, while its owner swaps it a
-//! thousand times for another, and takes the last one away. Each comes back by value, with all its calls.
+//! thousand times for another, and then takes the last one back. Each plug-in is returned by value, and has
+//! counted all its calls.
 #![tactic(auto)]
 
 ghost use Rattle.std.specs.Prelude.{◌≡◌};
@@ -15,7 +16,7 @@ use std::thread::{Threads, for_each_mut, join};
 
 const ADDER: &[u8] = b"/adder";
 
-/// A plug-in: how often it was called.
+/// A plug-in that counts how often it was called.
 #[derive(Drop)]
 struct Adder(AtomicU64);
 
@@ -31,11 +32,11 @@ impl Adder {
     }
 }
 
-/// What a thread calls by, and how often it called the plug-in.
+/// A thread's caller, and how often the thread called the plug-in.
 #[derive(Drop)]
 struct Job<N: Naming>(ValueCaller<N>, u64);
 
-/// Calls the plug-in until there is none.
+/// Calls the plug-in until a call is refused.
 fn call<N: Naming, R: Wait>(rt: &R, registry: &Registry<N, Adder>, job: &mut Job<N>) {
     for _ in rt.forever() {
         match job.0.call(rt, registry, ADDER, |adder| adder.call()) {
@@ -45,7 +46,7 @@ fn call<N: Naming, R: Wait>(rt: &R, registry: &Registry<N, Adder>, job: &mut Job
     }
 }
 
-/// Swaps the plug-in, and returns how often those that came back were called.
+/// Swaps the plug-in a thousand times, and returns how often the old ones were called.
 fn swap<N: Naming, R: Wait>(
     rt: &R,
     registry: &Registry<N, Adder>,
@@ -84,7 +85,7 @@ fn run<N: Naming + Send + Sync, R: Threads + Wait + Print + Sync>(
             registry.take(rt, &mut own, ADDER),
         ),
     );
-    let last = last?.into_value(); // nobody is inside, and nobody comes in
+    let last = last?.into_value(); // nobody is inside, and nobody will enter
     let all = swapped?.saturating_add(last.0.load(Ordering::SeqCst));
     let called = jobs.iter().fold(0u64, |sum, job| sum.saturating_add(job.1));
     println!(rt;

@@ -1,4 +1,5 @@
-//! Devices on a bus: two are plugged, one is unplugged by its name, and one by its own attribute `delete`.
+//! Devices on a bus: two are plugged in; one is unplugged by its name, and the other through its own
+//! attribute `delete`.
 
 ghost use Rattle.std.specs.Prelude.{◌≡◌};
 
@@ -33,7 +34,7 @@ fn print_names<N: Naming, R: Wait + Print>(
     Ok(())
 }
 
-/// Writes `1` into a device's `delete`: its callback removes the device that it belongs to.
+/// Writes `1` to the `delete` file of a device. The callback of this file removes the device.
 fn delete<N: Naming, R: Wait>(
     rt: &R,
     alloc: Global,
@@ -47,7 +48,7 @@ fn delete<N: Naming, R: Wait>(
     let page = Box::new(alloc, PageApart::new())?;
     let mut editor = tree.edit(rt);
     let key: Key = editor.state().lookup(path)?;
-    // there are event numbers for this many slots
+    // only this many slots have event numbers
     if key.slot >= SLOTS {
         return Err(Refusal::NoSpace);
     }
@@ -74,7 +75,7 @@ fn delete<N: Naming, R: Wait>(
     taken.ok().ok_or(Refusal::NoDevice)
 }
 
-/// Plugs two devices, and has one go by its name and one by its file.
+/// Plugs in two devices, and removes one by its name and one through its file.
 fn use_bus<N: Naming, R: Wait + Print>(
     rt: &R,
     alloc: Global,
@@ -104,7 +105,7 @@ fn run<N: Naming, R: Wait + Print>(rt: &R, alloc: Global, new: NewTree) -> anyho
     use_bus(rt, alloc, &tree, &bus, &mut posts)
 }
 
-/// Makes the tree, and a bus over it.
+/// Makes a tree, and a bus in it.
 pub(crate) fn start<R: Wait + Print>(rt: &R, alloc: Global) -> anyhow::Result<()> {
     let limits = Limits::new(SLOTS, 100).context("32 slots and 100 holds are within the limits")?;
     run::<Brand, _>(rt, alloc, SharedTree::<Brand>::new(alloc, limits)?)

@@ -15,13 +15,13 @@ use std::io;
 use std::marker::Brand;
 use std::sync::Wait;
 
-/// What a store of no number returns (`EINVAL`).
+/// What a store returns if the bytes are no number (`EINVAL`).
 const NO_NUMBER: Fault = Fault { number: 22 };
 
-/// The file, open. Its page lies in a box, so that a move of the file copies none of the 4,096 bytes.
+/// The open file. Its page is in a box, so that a move of the file copies none of the page's 4,096 bytes.
 type LimitFile = OpenFile<Seats, Box<PageApart>>;
 
-/// What the driver keeps: the number that its attribute shows.
+/// What the driver stores: the number that its attribute shows.
 #[derive(Drop)]
 struct FanDriver {
     limit: u32,
@@ -41,7 +41,7 @@ impl Ops<Call> for FanDriver {
         Ok(())
     }
 
-    /// Takes the number, if the bytes spell one.
+    /// Stores the number, if the bytes spell one.
     fn store(&mut self, call: &mut Call, tag: u64, bytes: &[u8]) -> Result<usize, Fault> {
         let _ = call;
         let _ = tag;
@@ -51,7 +51,7 @@ impl Ops<Call> for FanDriver {
     }
 }
 
-/// The file `/limit`, opened.
+/// Creates the file `/limit` and opens it.
 fn open<N: Naming, R: Wait>(
     rt: &R,
     alloc: Global,
@@ -84,7 +84,7 @@ fn print_error<R: Print>(rt: &R, error: FileError) -> io::Result<()> {
     }
 }
 
-/// Prints what a read of the file gives.
+/// Reads the file, and prints what the read returned.
 fn read<R: Print>(rt: &R, file: &mut LimitFile, driver: &mut FanDriver) -> anyhow::Result<()> {
     let mut out = [0u8; 16];
     match file.read(&mut Seats, driver, 0, &mut out) {
@@ -98,7 +98,7 @@ fn read<R: Print>(rt: &R, file: &mut LimitFile, driver: &mut FanDriver) -> anyho
     Ok(())
 }
 
-/// Writes a text, and prints what became of it.
+/// Writes a text, and prints the result.
 fn write<R: Print>(
     rt: &R,
     file: &mut LimitFile,
@@ -134,7 +134,7 @@ fn run<N: Naming, R: Wait + Print>(rt: &R, alloc: Global, new: NewTree) -> anyho
     told
 }
 
-/// Makes the tree, and tries a file of it out.
+/// Makes a tree, and tries out a file in it.
 pub(crate) fn start<R: Wait + Print>(rt: &R, alloc: Global) -> anyhow::Result<()> {
     let limits = Limits::new(16, 100).context("16 slots and 100 holds are within the limits")?;
     run::<Brand, _>(rt, alloc, SharedTree::<Brand>::new(alloc, limits)?)

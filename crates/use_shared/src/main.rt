@@ -1,5 +1,5 @@
-//! Three uses of the tree of many threads, a file each: removal that waits, an open file with callbacks of
-//! one's own, and devices on a bus.
+//! Three uses of a tree that threads share, each in its own file: a removal that waits, an open file with
+//! your own callbacks, and devices on a bus.
 #![tactic(auto)]
 
 mod device;

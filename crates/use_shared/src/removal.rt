@@ -1,5 +1,5 @@
-//! Removal among threads: a reader uses an attribute again and again until it is refused, while its directory
-//! is removed. When `remove` has returned, no reader is inside and none comes in any longer.
+//! Removal among threads: a reader enters an attribute again and again until it is refused, while its
+//! directory is removed. Once `remove_key` has returned, no reader is inside, and none gets in any more.
 
 ghost use Rattle.std.specs.Prelude.{◌≡◌};
 
@@ -12,7 +12,7 @@ use std::sync::Wait;
 use std::sync::atomic::{AtomicU64, Ordering};
 use std::thread::{Threads, join};
 
-/// The directory `/fan` with its attribute `speed`, both live.
+/// Creates the directory `/fan` with its attribute `speed`, both live.
 fn publish<N: Naming, R: Wait>(rt: &R, tree: &SharedTree<N>) -> Result<(Key, Key), Refusal> {
     let mut editor = tree.edit(rt);
     let root = editor.state().root();
@@ -25,7 +25,7 @@ fn publish<N: Naming, R: Wait>(rt: &R, tree: &SharedTree<N>) -> Result<(Key, Key
     Ok((fan, speed))
 }
 
-/// Goes in and out by a hold until it is refused: in here the driver's callback would run.
+/// Enters and leaves with a hold until it is refused. The driver's callback would run in between.
 fn read_until_refused<N: Naming, R: Wait>(
     rt: &R,
     tree: &SharedTree<N>,
@@ -48,7 +48,7 @@ fn read_until_refused<N: Naming, R: Wait>(
     unreachable!()
 }
 
-/// Removes the directory once the reader has been inside, and returns how many nodes went.
+/// Removes the directory once the reader has been inside. Returns how many nodes were removed.
 fn remove_under_use<N: Naming, R: Wait>(
     rt: &R,
     tree: &SharedTree<N>,
@@ -62,7 +62,7 @@ fn remove_under_use<N: Naming, R: Wait>(
     Ok(count)
 }
 
-/// Waits, for some time at most, until the reader has been inside.
+/// Waits until the reader has been inside; gives up after a while.
 fn while_unused(reads: &AtomicU64) {
     for _ in 0..1_000_000_000u64 {
         if reads.load(Ordering::SeqCst) != 0 {
@@ -71,7 +71,7 @@ fn while_unused(reads: &AtomicU64) {
     }
 }
 
-/// Reads and removes by two threads.
+/// Reads in one thread and removes in another.
 fn remove_while_read<N: Naming + Send + Sync, R: Threads + Wait + Sync + Print>(
     rt: &R,
     tree: &SharedTree<N>,
@@ -99,7 +99,7 @@ fn run<N: Naming + Send + Sync, R: Threads + Wait + Sync + Print>(
     remove_while_read(rt, &new.named::<N>())
 }
 
-/// Makes the tree, and removes under use what it has.
+/// Makes a tree, and removes a directory in it while its file is in use.
 pub(crate) fn start<R: Threads + Wait + Sync + Print>(rt: &R, alloc: Global) -> anyhow::Result<()> {
     let limits = Limits::new(16, 100).context("16 slots and 100 holds are within the limits")?;
     run::<Brand, _>(rt, SharedTree::<Brand>::new(alloc, limits)?)

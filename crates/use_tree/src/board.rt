@@ -1,4 +1,4 @@
-//! A script over your own board: it keeps no tree, makes nodes up and counts what it was asked.
+//! A script over your own board. This board has no tree: it makes nodes up, and counts them.
 
 ghost use Rattle.std.specs.Prelude.{◌≤◌};
 
@@ -7,7 +7,7 @@ use kf_script::{Board, Reply, Request, run_script};
 use std::alloc::Global;
 use std::io;
 
-/// How many nodes were asked for.
+/// A board that counts how many nodes were asked for.
 #[derive(Drop)]
 struct Counter {
     nodes: u32,
@@ -16,8 +16,8 @@ struct Counter {
 impl Board for Counter {
     ghost step = { λ before _ _ _ after. before.nodes ≤ after.nodes };
 
-    /// Answers a request for a node with the next key, `commands` with their number, all others with
-    /// `Invalid`.
+    /// Replies to a request for a directory or a file with the next key, to `commands` with the number of
+    /// nodes, and to all others with `Invalid`.
     fn answer(&mut self, request: &Request<'_>, reply: &mut Reply) {
         match *request {
             Request::MakeDirectory { .. } | Request::MakeFile { .. } => {

@@ -1,4 +1,5 @@
-//! Two uses without threads, a file each: the plain tree of one owner, and scripts over your own board.
+//! Two examples without threads, one file each: the plain tree of one owner, and a script over your own
+//! board.
 #![tactic(auto)]
 
 mod board;

@@ -1,18 +1,18 @@
-//! The plain tree with keys of its owner's own choice: fans that come and go, each in the slot of its number.
+//! The plain tree with keys that its owner chooses: fans that come and go, each in the slot for its number.
 
 use anyhow::Context;
 use kf_core::{Key, Limits, Node, Refusal};
 use kf_tree::State;
 use std::alloc::Global;
 
-/// The root's key. Slot and generation are the owner's to choose, as long as no key is given twice.
+/// The root's key. The owner chooses slot and generation, as long as it uses no key twice.
 const ROOT: Key = Key {
     slot: 0,
     generation: 1,
 };
 
-/// A fan comes, which has come `times` times before. Its attribute is live at once. `create` needs a key
-/// whose slot is vacant.
+/// Adds a fan that was added `times` times before. Its attribute is live at once. `create` needs a key whose
+/// slot is vacant.
 fn come(state: &mut State, name: &[u8], fan: u32, times: u32) -> Result<Key, Refusal> {
     let slot = 1 + fan % 8;
     if !state.is_vacant(slot) {
@@ -29,7 +29,8 @@ fn come(state: &mut State, name: &[u8], fan: u32, times: u32) -> Result<Key, Ref
     state.create(ROOT, name, attribute, true, Some(key))
 }
 
-/// A node goes, and all below it: each is doomed at once, and unlinked after what is below it.
+/// Removes a node and all nodes below it: dooms all of them at once, and unlinks each after the nodes below
+/// it.
 fn go(state: &mut State, key: Key) -> Result<(), Refusal> {
     for doomed in state.doom(key)? {
         state.unlink(doomed)?;
@@ -37,7 +38,7 @@ fn go(state: &mut State, key: Key) -> Result<(), Refusal> {
     Ok(())
 }
 
-/// Two fans come. A third one, of a name that is taken, is refused.
+/// Adds two fans. A third one, whose name is taken, is refused.
 fn two_come(rt: &impl Print, state: &mut State) -> anyhow::Result<Key> {
     let fan1 = come(state, b"fan1", 1, 0)?;
     come(state, b"fan0", 0, 0)?;
@@ -47,7 +48,7 @@ fn two_come(rt: &impl Print, state: &mut State) -> anyhow::Result<Key> {
     Ok(fan1)
 }
 
-/// A fan goes and comes again, under a new key of the same slot.
+/// Removes a fan and adds it again, under a new key of the same slot.
 fn come_again(rt: &impl Print, state: &mut State, fan1: Key) -> anyhow::Result<()> {
     go(state, fan1)?;
     come(state, b"fan1", 1, 1)?;
@@ -66,7 +67,7 @@ fn print_names(rt: &impl Print, state: &State) -> anyhow::Result<()> {
     Ok(())
 }
 
-/// The stored commands make the tree, before and after they are compacted.
+/// Prints how many commands are stored, before and after they are compacted. Both lists make the same tree.
 fn compact(rt: &impl Print, state: &mut State) -> anyhow::Result<()> {
     println!(rt; "{} commands make this tree", state.commands().len())?;
     state.compact()?;
@@ -74,7 +75,7 @@ fn compact(rt: &impl Print, state: &mut State) -> anyhow::Result<()> {
     Ok(())
 }
 
-/// Fans come, go and come again.
+/// Adds fans, removes one of them, and adds it again.
 pub(crate) fn start(rt: &impl Print, alloc: Global) -> anyhow::Result<()> {
     let limits = Limits::new(16, 100).context("16 slots and 100 holds are within the limits")?;
     let mut state = State::new(alloc, limits, ROOT)?;

@@ -1,5 +1,6 @@
-//! Devices that report themselves: a thread adds a bus and two fan controllers, changes one, renames the
-//! other, and removes them all. Another thread sleeps until there are uevents, and prints each.
+//! Devices whose changes are reported as uevents. One thread adds a bus and two fan controllers, reports a
+//! change of one, renames the other, and removes them all. Another thread sleeps until there are uevents, and
+//! prints each of them.
 #![tactic(auto)]
 
 ghost use Rattle.std.specs.Prelude.{◌≡◌};
@@ -33,7 +34,7 @@ fn text_of(path: &[u8]) -> anyhow::Result<&str> {
     str::from_utf8(path).ok().context("the names are text")
 }
 
-/// Prints what happened to which device, and the path that it had before a move.
+/// Prints what happened to which device and, after a move, the path that the device had before.
 fn print<R: Print>(rt: &R, event: &Uevent) -> anyhow::Result<()> {
     let action = event.action;
     let path = text_of(&event.path)?;
@@ -44,7 +45,7 @@ fn print<R: Print>(rt: &R, event: &Uevent) -> anyhow::Result<()> {
     Ok(())
 }
 
-/// Prints each event, until the bus is removed.
+/// Prints each event until the bus is removed.
 fn listens<R: Wait + Print>(
     rt: &R,
     log: &RwLock<UeventLog>,
@@ -79,7 +80,8 @@ fn adds<N: Naming, R: Wait>(
     key
 }
 
-/// Adds the bus and its devices, changes and moves them, and removes all, the bus last.
+/// Adds the bus and its devices, reports a change of one, renames the other, and removes them all, the bus
+/// last.
 fn plugs<N: Naming, R: Wait>(
     rt: &R,
     tree: &SharedTree<N>,

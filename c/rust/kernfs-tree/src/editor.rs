@@ -193,7 +193,7 @@ impl<'a> Editor<'a> {
         let key = self.tree.own(key)?;
         Ok(must(unsafe { sys::kt_claim(self.raw(), key) })? == 0)
     }
-    /// Compacts the tree's log if it has 1,000 more than twice as many commands as the tree needs.
+    /// Compacts the tree's log if it has at least 1,000 more than twice as many commands as a compaction would leave.
     pub fn tidy(&mut self) {
         let mut count = sys::kt_command_counts::default();
         unsafe {

@@ -130,7 +130,7 @@ impl File {
         must(begun)
     }
     /// Reads what `show` writes, from an offset on: `show` runs at offset 0 or if there is no text yet. If it fails,
-    /// there is no text. EACCES: not opened for reading; ENODEV: the node is gone.
+    /// there is no text. EACCES: not opened for reading; ENODEV: the node is not live.
     pub fn read<E: From<Error>>(
         &mut self, offset: u64, out: &mut [u8], show: impl FnOnce(&mut Vec<u8>) -> std::result::Result<(), E>,
     ) -> std::result::Result<usize, E> {
@@ -145,7 +145,7 @@ impl File {
         Ok(must(length)? as usize)
     }
     /// Returns what `store` returns for these bytes, a page of them at most. Without any byte it is 0, and `store` does
-    /// not run. EACCES: not opened for writing; ENODEV: the node is gone.
+    /// not run. EACCES: not opened for writing; ENODEV: the node is not live.
     pub fn write<E: From<Error>>(
         &mut self, bytes: &[u8], store: impl FnOnce(&[u8]) -> std::result::Result<usize, E>,
     ) -> std::result::Result<usize, E> {
@@ -158,7 +158,7 @@ impl File {
             store(&bytes[..bytes.len().min(PAGE_SIZE)])
         }
     }
-    /// Whether the file has changed since its last read, was never read, or is gone.
+    /// Whether the file has changed since its last read, was never read, or is not live.
     pub fn is_changed(&mut self) -> bool {
         self.0.run(|call| unsafe { sys::kt_changed(call.of.own.raw()) } == 1).unwrap_or(true)
     }

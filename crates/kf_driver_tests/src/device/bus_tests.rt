@@ -1,4 +1,5 @@
-//! What a bus keeps of its devices, which texts it shows, and that it forgets those of devices that are gone.
+//! What a bus keeps of its devices, which texts it shows, and that it forgets the texts of devices that are
+//! gone.
 use crate::device::fixtures::made;
 use crate::device::steps::{Step, walk};
 use kf_core::Refusal;
@@ -7,7 +8,7 @@ use std::marker::Brand;
 /// The lowest tag of a bus.
 const FIRST: u64 = 1 << 63;
 
-/// Tags of no device, also those of a plug that never began.
+/// Tags of no device, among them those of a plug that never began.
 const ODD: [Step; 12] = [
     Step::Plugs(b"d1", b"one", None),
     Step::IsUnknown(0),
@@ -23,7 +24,7 @@ const ODD: [Step; 12] = [
     Step::Unplugs(b"d1", None),
 ];
 
-/// A value may have any bytes, and a device is there as long as its `delete` is.
+/// A value may have any bytes, and a device is there as long as its `delete` file is.
 const WITHOUT_VALUE: [Step; 11] = [
     Step::Plugs(b"d0", b"a\0b\xff ", None),
     Step::Shows(b"/devices/d0/value", b"a\0b\xff "),
@@ -38,8 +39,8 @@ const WITHOUT_VALUE: [Step; 11] = [
     Step::Unplugs(b"d2", None),
 ];
 
-/// A removal that is refused within a store of `delete` leaves the device if `delete` has no room, and the
-/// rest of it for an unplug if `value` has none.
+/// A store to `delete` may fail because a node has no room for another hold. If that node is `delete` itself,
+/// the whole device stays. If it is `value`, the rest of the device stays until it is unplugged.
 const REFUSED: [Step; 9] = [
     Step::Plugs(b"d0", b"on", None),
     Step::Refuses(b"/devices/d0/delete", b"/devices/d0/serial"),
@@ -54,7 +55,7 @@ const REFUSED: [Step; 9] = [
 
 const STAYS: [Step; 2] = [Step::Keeps(0, 0), Step::Plugs(b"stays", b"here", None)];
 
-/// Another device comes, and goes by its name.
+/// Another device is plugged, and is unplugged by its name.
 const COMES_AND_GOES: [Step; 5] = [
     Step::Plugs(b"goes", b"away", None),
     Step::Unplugs(b"goes", None),
@@ -63,7 +64,7 @@ const COMES_AND_GOES: [Step; 5] = [
     Step::Keeps(1, 1),
 ];
 
-/// Another device comes, and its nodes are removed past the bus.
+/// Another device is plugged, and its nodes are removed without the bus.
 const COMES_AND_IS_REMOVED: [Step; 5] = [
     Step::Plugs(b"goes", b"away", None),
     Step::Removes(b"/devices/goes"),
@@ -80,7 +81,8 @@ const LEAVES: [Step; 5] = [
     Step::Keeps(0, 0),
 ];
 
-/// More devices stay than a sweep might look at, and all that are gone have higher numbers than they.
+/// More devices stay than a sweep might look at, and all devices that are gone have higher numbers than
+/// these.
 const NINE_STAY: [Step; 9] = [
     Step::Plugs(b"a", b"stays", None),
     Step::Plugs(b"b", b"stays", None),
@@ -112,7 +114,7 @@ const LISTS: [(u32, &[Step]); 9] = [
     (40, &GOES),
 ];
 
-/// Each node may have two holds.
+/// Each node may have at most two holds.
 #[test]
 fn a_bus_keeps_the_devices_that_are_there(rt: HostRuntime) {
     let new = made(&rt, rt.alloc(), 2);

@@ -1,4 +1,4 @@
-//! The callbacks of a bus, which wait for others before they go on or return.
+//! The callbacks of a bus, delayed: they wait for other threads before they go on or return.
 
 use crate::device::fixtures::{count_of, wait_for};
 use kf_device::Bus;
@@ -11,14 +11,14 @@ use std::sync::atomic::{AtomicU64, Ordering};
 #[derive(Drop)]
 pub(crate) struct Delayed<'a, N: Naming> {
     bus: &'a Bus<N>,
-    /// How often `d0` was plugged anew, by the thread that says that.
+    /// How often `d0` was plugged again, as reported by the thread that plugs it.
     pub(crate) plugged: AtomicU64,
-    /// How many callbacks have begun. A store asks the bus once two have.
+    /// How many callbacks have begun. A store calls the bus only once two have begun.
     pub(crate) begun: AtomicU64,
     /// How many removals have returned.
     pub(crate) answered: AtomicU64,
-    /// A show that has its text stays inside until the value of `d0` is marked, and then looks 10,000 times
-    /// whether a removal has returned: how many looks saw one that had.
+    /// How many looks of a show found that a removal had already returned. A show that has its text stays
+    /// inside until the value of `d0` is marked, and then looks 10,000 times.
     pub(crate) early: AtomicU64,
 }
 

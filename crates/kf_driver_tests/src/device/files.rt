@@ -1,4 +1,4 @@
-//! The tests of `kf_notify` and `kf_files`: event numbers, and files of callbacks that stand on no bus.
+//! The tests of `kf_notify` and `kf_files`: event numbers, and files whose callbacks belong to no bus.
 
 mod callback_tests;
 mod driver;

@@ -28,7 +28,7 @@ pub(crate) const WRITE: Want = Want {
     write: true,
 };
 
-/// A tree of 64 slots, each of which may have this many holds.
+/// A tree with 64 slots, each of which may have at most this many holds.
 pub(crate) fn made<R: Abort>(rt: &R, alloc: Global, holds: u32) -> NewTree {
     let Some(limits) = Limits::new(64, holds) else {
         panic!(rt; "no such limits")
@@ -50,7 +50,7 @@ pub(crate) fn count_of(counter: &AtomicU64) -> u64 {
     counter.load(Ordering::SeqCst)
 }
 
-/// Waits until this many were counted there. Whether they were.
+/// Waits until the counter has reached this count. Returns whether it has.
 pub(crate) fn wait_for(count: u64, counter: &AtomicU64) -> bool {
     for _ in 0..1_000_000_000u64 {
         if count_of(counter) >= count {
@@ -60,7 +60,7 @@ pub(crate) fn wait_for(count: u64, counter: &AtomicU64) -> bool {
     false
 }
 
-/// Numbers of the 64 slots.
+/// Event numbers of the 64 slots.
 pub(crate) fn posts_of<R: Abort>(rt: &R, alloc: Global) -> Posts {
     match Posts::new(alloc, 64) {
         Ok(posts) => posts,
@@ -78,7 +78,7 @@ pub(crate) fn post_at<R: Abort>(rt: &R, posts: &mut Posts, slot: u32) -> Post
     }
 }
 
-/// Makes a live file of this tag in the root's directory.
+/// Makes a live file with this tag in the root directory.
 pub(crate) fn plants<N: Naming, R: Wait>(
     rt: &R,
     tree: &SharedTree<N>,
@@ -91,7 +91,7 @@ pub(crate) fn plants<N: Naming, R: Wait>(
     editor.create(root, name, file, true).is_ok()
 }
 
-/// A hold of the live node of a path, if there is one.
+/// A hold of the live node at a path, if there is one.
 pub(crate) fn held<N: Naming, R: Wait>(rt: &R, tree: &SharedTree<N>, path: &[u8]) -> Option<Hold>
     ensures { IfSome result (λ hold. hold.table ≡ N.table) }
 {
@@ -103,7 +103,7 @@ pub(crate) fn held<N: Naming, R: Wait>(rt: &R, tree: &SharedTree<N>, path: &[u8]
     }
 }
 
-/// The live file of a path, opened with a post of these numbers, if there is one.
+/// The live file at a path, opened with a post of these numbers, if there is one.
 pub(crate) fn opened_by<N: Naming, R: Abort + Wait>(
     rt: &R,
     tree: &SharedTree<N>,
@@ -123,7 +123,7 @@ pub(crate) fn opened_by<N: Naming, R: Abort + Wait>(
     }
 }
 
-/// The same with new event numbers.
+/// The live file at a path, opened with a post of new event numbers, if there is one.
 pub(crate) fn opened<N: Naming, R: Abort + Wait>(
     rt: &R,
     alloc: Global,

@@ -1,4 +1,4 @@
-//! What a bus is asked for, one call after another, and what each must return.
+//! Steps with a bus. Each step is one call, and says what it must return.
 ghost use Rattle.std.specs.Prelude.{◌≡◌};
 
 use crate::device::fixtures::{BOTH, READ, WRITE, held, new_bus, opened, plants};
@@ -12,23 +12,24 @@ use std::sync::Wait;
 
 #[derive(Clone, Copy)]
 pub(crate) enum Step {
-    /// Why a device of this name and value is not plugged, if it is not.
+    /// A device with this name and value is plugged, or is refused for this reason.
     Plugs(&'static [u8], &'static [u8], Option<Refusal>),
     Unplugs(&'static [u8], Option<Refusal>),
-    /// A read of the file of a path gives this.
+    /// A read of the file at a path returns this text.
     Shows(&'static [u8], &'static [u8]),
-    /// What a store of these bytes into the file of a path returns.
+    /// What a store of these bytes into the file at a path returns.
     Stores(&'static [u8], &'static [u8], Result<usize, FileError>),
-    /// While holds of these two paths are out, a store of `delete` of `d0` finds no room for one.
+    /// While the nodes at these two paths are held, a store to `delete` of `d0` fails, because a node has no
+    /// room for another hold.
     Refuses(&'static [u8], &'static [u8]),
     /// How many live children a directory has.
     Has(&'static [u8], usize),
-    /// Of at least and at most this many devices the bus keeps texts.
+    /// The bus keeps texts of at least and at most this many devices.
     Keeps(usize, usize),
-    /// The live node of a path is removed with all below it, past the bus.
+    /// The live node at a path is removed with all below it, without the bus.
     Removes(&'static [u8]),
     Compacts,
-    /// A file of this tag, beside the bus, takes and shows nothing.
+    /// A file with this tag that is not on the bus takes and shows nothing.
     IsUnknown(u64),
 }
 
@@ -106,7 +107,7 @@ fn removes<N: Naming, R: Wait>(rt: &R, tree: &SharedTree<N>, path: &[u8]) -> boo
     }
 }
 
-// An editor within a longer expression would keep the lock.
+// This is a function because an editor within a longer expression would keep the lock.
 fn compacts<N: Naming, R: Wait>(rt: &R, tree: &SharedTree<N>) -> bool {
     tree.edit(rt).compact() == Ok(())
 }
@@ -155,7 +156,7 @@ fn is_right<N: Naming, R: Abort + Wait>(
     }
 }
 
-/// Takes the steps. The first that returns something else than it must stops the test.
+/// Takes the steps. The first step that returns something other than it must stops the test.
 pub(crate) fn take<N: Naming, R: Abort + Wait>(
     rt: &R,
     alloc: Global,
@@ -172,7 +173,7 @@ pub(crate) fn take<N: Naming, R: Abort + Wait>(
     }
 }
 
-/// Takes these steps on a new bus, each list of them so often.
+/// Takes these lists of steps on a new bus, each list as often as its number says.
 pub(crate) fn walk<N: Naming, R: Abort + Wait>(
     rt: &R,
     alloc: Global,

@@ -1,4 +1,5 @@
-//! Four threads on one device: they read it, delete or unplug it, plug its name anew, or look what is there.
+//! Four threads on one device: they read it, delete or unplug it, plug another device with its name, or look
+//! at what is there.
 ghost use Rattle.std.specs.Prelude.{◌≡◌};
 
 use crate::device::delayed::{Delayed, new_delayed};
@@ -19,31 +20,32 @@ const VALUE: &[u8] = b"/devices/d0/value";
 
 const DELETE: &[u8] = b"/devices/d0/delete";
 
-/// How often a device has a later one of its name.
+/// How often a device is followed by a later one with its name.
 const ROUNDS: u64 = 500;
 
 /// What a thread does.
 #[derive(Clone, Copy)]
 enum Part {
-    /// It reads the value of `d0`, by a show that stays inside until a removal has begun.
+    /// It reads the value of `d0`, with a show that stays inside until a removal has begun.
     Reads,
-    /// It stores into `delete` of `d0`, by a store that goes on once another callback is inside.
+    /// It stores to `delete` of `d0`, with a store that goes on once another callback is inside.
     Deletes,
     /// It unplugs `d0` once a show is inside.
     Unplugs,
-    /// It unplugs `d0` and plugs a second device of the name, while another deletes the first, many times.
+    /// Many times, it unplugs `d0` and plugs a second device with that name, while another thread deletes the
+    /// first.
     Replugs,
-    /// It deletes the first of each two, and no later one.
+    /// It deletes the first of each two devices, and no later one.
     DeletesFirst,
-    /// It plugs `d0` again and again, reads the value that is there, and unplugs.
+    /// Again and again, it plugs `d0`, reads the value that is there, and unplugs `d0`.
     Renews,
-    /// It looks again and again.
+    /// It looks at what is there, again and again.
     Looks,
 }
 
-/// Crowds on a device that is there. Neither an unplug nor a `delete` returns before a show has ended, two
-/// stores of one `delete` meet in their callbacks, a `delete` leaves a later device of the name, and whoever
-/// plugs has its text ready.
+/// Crowds on a device that is there. Neither an unplug nor a `delete` returns before a show has ended. Two
+/// stores to one `delete` meet in their callbacks. A `delete` does not remove a later device with the same
+/// name. A device has its text as soon as it is plugged.
 const CROWDS: [[Part; 4]; 5] = [
     [Part::Reads, Part::Unplugs, Part::Looks, Part::Looks],
     [Part::Reads, Part::Deletes, Part::Looks, Part::Looks],
@@ -69,7 +71,8 @@ fn looks<N: Naming, R: Wait>(rt: &R, tree: &SharedTree<N>) -> bool {
     true
 }
 
-// Whether the device that is there has its text, if one is there, or it is gone meanwhile.
+// Whether the device that is there has its text. This is also true if no device is there, or if the device
+// has gone by the time of the read.
 fn has_text<N: Naming, R: Abort + Wait>(
     rt: &R,
     alloc: Global,
@@ -102,7 +105,7 @@ fn renews<N: Naming, R: Abort + Wait>(
     true
 }
 
-// Unplugs the first device, and plugs a second one of its name, once nobody has the first.
+// Unplugs the first device, and plugs a second one with its name once the first is gone.
 fn replug<N: Naming, R: Wait>(rt: &R, tree: &SharedTree<N>, bus: &Bus<N>) {
     let _ = bus.unplug(rt, tree, b"d0");
     for _ in 0..1_000_000 {
@@ -112,7 +115,7 @@ fn replug<N: Naming, R: Wait>(rt: &R, tree: &SharedTree<N>, bus: &Bus<N>) {
     }
 }
 
-// Whether each second device is there, with its value and its link, once the store has returned.
+// Whether each second device is still there, with its value and its link, once the store has returned.
 fn replugs<N: Naming, R: Abort + Wait>(
     rt: &R,
     alloc: Global,
@@ -133,7 +136,7 @@ fn replugs<N: Naming, R: Abort + Wait>(
     bus.unplug(rt, tree, b"d0") == Ok(())
 }
 
-// Opens `delete` of each first device, and stores into it once another thread may go on.
+// Opens `delete` of each first device, allows another thread to go on, and stores to the file.
 fn deletes_first<N: Naming, R: Abort + Wait>(
     rt: &R,
     alloc: Global,

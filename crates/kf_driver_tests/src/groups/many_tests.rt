@@ -1,4 +1,4 @@
-//! As many groups as a driver may write down, and a group of as many attributes.
+//! As many groups as a driver may declare, and a group with as many attributes.
 ghost use Rattle.std.specs.Prelude.{◌≡◌};
 
 use super::tests::ROOT;
@@ -11,7 +11,7 @@ use std::marker::Brand;
 use std::process::Abort;
 use std::sync::Wait;
 
-/// The name of each group, and of each attribute of one, is one of these.
+/// Each letter names one of the groups, and one of the attributes of the large group.
 const LETTERS: &[u8; 40] = b"0123456789abcdefghijklmnopqrstuvwxyzABCD";
 
 /// How many live nodes the root has.

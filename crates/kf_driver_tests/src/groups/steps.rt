@@ -1,4 +1,4 @@
-//! Steps with groups: a call each, and what it must return.
+//! Steps with groups. Each step is one call, and says what it must return.
 
 use kf_core::{Key, Node, Refusal};
 use kf_groups::{Group, create_group, create_groups, remove_group, remove_groups};
@@ -11,20 +11,20 @@ use std::sync::Wait;
 pub(crate) enum Step {
     /// A live directory of this name is made in the directory.
     Directory(Key, &'static [u8]),
-    /// Why a group is not made in the directory, if it is not.
+    /// A group is made in the directory, or is refused for this reason.
     Make(Key, Group<'static>, Option<Refusal>),
     MakeAll(Key, &'static [Group<'static>], Option<Refusal>),
     Remove(Key, Group<'static>, Option<Refusal>),
     RemoveAll(Key, &'static [Group<'static>], Option<Refusal>),
-    /// The removal of these groups is refused while the file at the path has all its holds.
+    /// The removal of these groups is refused while the file at the path has the greatest number of holds.
     Held(&'static [u8], Key, &'static [Group<'static>]),
-    /// A live node has this slot.
+    /// The path leads to a live node with this slot.
     At(&'static [u8], u32),
-    /// Nothing stands there, live or not.
+    /// The path leads to no node, live or not.
     Free(&'static [u8]),
 }
 
-/// Whether that is so of the file, which may have one hold.
+/// Whether the removal is refused while the file is held. The file may have only one hold.
 fn is_refused<N: Naming, R: Wait>(
     rt: &R,
     alloc: Global,
@@ -66,7 +66,7 @@ fn is_right<N: Naming, R: Wait>(rt: &R, alloc: Global, tree: &SharedTree<N>, ste
     }
 }
 
-/// Takes the steps. The first that does not find what it must stops the test.
+/// Takes the steps. The first step that does not find what it must find stops the test.
 pub(crate) fn walk<N: Naming, R: Abort + Wait>(
     rt: &R,
     alloc: Global,

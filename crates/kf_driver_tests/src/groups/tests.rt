@@ -1,5 +1,5 @@
-//! Groups that are made in a directory below the root, taken back, and removed. The root has others of the
-//! same names.
+//! Groups that are made in a directory below the root, taken back, and removed. The root has other groups
+//! with the same names.
 ghost use Rattle.std.specs.Prelude.{◌≡◌};
 
 use super::steps::{Step, walk};
@@ -47,7 +47,7 @@ const C: Attribute<'static> = Attribute {
     tag: 3,
 };
 
-/// The group that has the name of `/d`, and would make no directory.
+/// A group with the name of `/d`, which would make no directory.
 const OF_D: Group<'static> = Group {
     name: Some(b"d"),
     attributes: &[],
@@ -63,13 +63,13 @@ pub(crate) const BARE: Group<'static> = Group {
     attributes: &[A, B],
 };
 
-/// A group that is not there.
+/// A group that is not there at first.
 const ABSENT: Group<'static> = Group {
     name: Some(b"h"),
     attributes: &[A, B],
 };
 
-/// A group of the same name, of which no attribute has a file.
+/// A group of the same name, none of whose attributes has a file.
 const HIDDEN: Group<'static> = Group {
     name: Some(b"h"),
     attributes: &[Attribute {
@@ -79,16 +79,17 @@ const HIDDEN: Group<'static> = Group {
     }],
 };
 
-/// What needs one slot more than there are.
+/// A group that needs one slot more than there are.
 const THREE: Group<'static> = Group {
     name: None,
     attributes: &[A, B, C],
 };
 
-/// The root's directory has a group of each kind. If slots lack, nothing stays of what was made, however
-/// often it is tried, so both groups have room in `/d`. The removal of a group ends at a file that may not
-/// be held. It passes over what is not there, except the directory of a single group. A group without a
-/// file makes no directory, so a group of its name has room beside it, and its removal finds nothing.
+/// The root directory has a group of each kind. If slots are lacking, nothing that was made stays, however
+/// often this is tried. So both groups have room in `/d` afterwards. The removal of a group ends at a file
+/// that cannot be held. It skips what is not there, except for the directory of a group that is removed by
+/// itself. A group without a file makes no directory. So a group of the same name has room beside it, and its
+/// removal finds nothing.
 static STEPS: [Step; 46] = [
     Step::Directory(ROOT, b"d"),
     Step::Make(ROOT, OWN, None),

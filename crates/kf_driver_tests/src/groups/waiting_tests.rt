@@ -13,7 +13,7 @@ use std::sync::Wait;
 use std::sync::atomic::{AtomicU64, Ordering};
 use std::thread::{Threads, join};
 
-/// Whether the node is marked while nobody has counted past 1, and nobody has in 10,000 looks since.
+/// Whether the node is marked, and the count is still 1 after more than 10,000 looks since then.
 fn is_waited_for<N: Naming, R: Wait>(
     rt: &R,
     tree: &SharedTree<N>,
@@ -33,8 +33,8 @@ fn is_waited_for<N: Naming, R: Wait>(
     looks > 10_000 && count.load(Ordering::SeqCst) == 1
 }
 
-/// Has a call on the live file of this path, counts itself, and leaves after the removal has begun. Returns
-/// whether the removal had not returned before.
+/// Enters the live file at this path, counts itself, and leaves after the removal has begun. Returns whether
+/// the removal had not returned before that.
 fn calls<N: Naming, R: Wait>(
     rt: &R,
     tree: &SharedTree<N>,
@@ -57,7 +57,7 @@ fn calls<N: Naming, R: Wait>(
     }
 }
 
-/// Removes the group once the call runs, and counts itself.
+/// Removes the group once the call runs, and then counts itself.
 fn removes<N: Naming, R: Wait>(
     rt: &R,
     alloc: Global,
@@ -75,7 +75,8 @@ fn removes<N: Naming, R: Wait>(
     told
 }
 
-/// The removal of a group returns once the call on the file of this path has ended, and the file is gone.
+/// The removal of a group returns only after the call on the file at this path has ended, and then the file
+/// is gone.
 fn waits<N: Naming + Send + Sync, R: Abort + Threads + Wait + Sync>(
     rt: &R,
     alloc: Global,

@@ -1,5 +1,5 @@
-//! Two threads add and remove devices, each its own and one whose name they share. A listener reads as many
-//! adds as removes, and each remove after the add of the same directory.
+//! Two threads add and remove devices: each has its own device, and there is one whose name they share. A
+//! listener reads as many adds as removes, and reads each remove after the add of the same directory.
 ghost use Rattle.std.specs.Prelude.{◌≡◌};
 
 use crate::fixtures::made;
@@ -45,7 +45,7 @@ const GROUPS: [Group<'static>; 2] = [
     },
 ];
 
-/// Adds a device, and wakes the listener. Whether it was added: the name may be taken.
+/// Adds a device, and wakes the listener. Returns whether the device was added, since its name may be taken.
 fn adds<N: Naming, R: Wait>(
     rt: &R,
     tree: &SharedTree<N>,
@@ -64,7 +64,7 @@ fn adds<N: Naming, R: Wait>(
     }
 }
 
-/// Removes what has the name, if anything has, also if the other thread removes it already.
+/// Removes the node with this name, if there is one, even if the other thread is already removing it.
 fn removes<N: Naming, R: Wait>(
     rt: &R,
     tree: &SharedTree<N>,
@@ -80,7 +80,7 @@ fn removes<N: Naming, R: Wait>(
     Ok(())
 }
 
-/// Adds and removes the own device and the shared one by turns. How many were added.
+/// Adds and removes the thread's own device and the shared one, in turn. Returns how many were added.
 fn plugs<N: Naming, R: Wait>(
     rt: &R,
     tree: &SharedTree<N>,
@@ -100,7 +100,7 @@ fn plugs<N: Naming, R: Wait>(
     Ok(added)
 }
 
-/// The directories that are reported as added, and not yet as removed; and how many were added and removed.
+/// The directories that were reported as added and not yet as removed, and how many were added and removed.
 #[derive(Drop)]
 struct Seen {
     present: Vec<Key>,
@@ -110,7 +110,8 @@ struct Seen {
 }
 
 impl Seen {
-    /// Takes note of an event: an add is of a directory that is not there, a remove of one that is.
+    /// Takes note of an event. An add must be of a directory that is not present, and a remove of one that
+    /// is.
     fn note(&mut self, event: &Uevent) {
         let is_device = DEVICES.iter().any(|path| *path == event.path.as_slice());
         let place = self.present.iter().position(|key| *key == event.key);
@@ -131,7 +132,7 @@ impl Seen {
     }
 }
 
-/// Reads until the root is reported as changed, which comes last.
+/// Reads until the root is reported as changed, which is the last event.
 fn listens<R: Wait>(rt: &R, log: &RwLock<UeventLog>, listener: &mut Listener, seen: &mut Seen) {
     for _ in rt.forever() {
         let guard = listener.wait(rt, log);
@@ -148,7 +149,8 @@ fn listens<R: Wait>(rt: &R, log: &RwLock<UeventLog>, listener: &mut Listener, se
     }
 }
 
-/// Lets both threads plug, and reports the change of the root. How many devices they added.
+/// Lets both threads add and remove devices, and then reports the change of the root. Returns how many
+/// devices they added.
 fn plugs_both<N: Naming + Send + Sync, R: Threads + Wait + Sync>(
     rt: &R,
     tree: &SharedTree<N>,

@@ -15,12 +15,12 @@ use std::sync::{Mutex, RwLock, RwLockReadGuard, Wait};
 use std::thread::{Threads, join, sleep};
 use std::time::{Clock, Duration};
 
-/// A list to which the first event is added right after the first look, which therefore does not find it.
+/// A list to which the first event is added right after the first look, so the first look does not find it.
 #[derive(Drop)]
 struct Late<'t, N: Naming> {
     tree: &'t SharedTree<N>,
     log: RwLock<UeventLog>,
-    /// What the first look finds.
+    /// The empty list, which the first look finds.
     none: RwLock<UeventLog>,
     posts: Mutex<Posts>,
     looks: AtomicU64,
@@ -36,8 +36,8 @@ impl<N: Naming> Look for Late<'_, N> {
     }
 }
 
-/// Wakes a listener that sleeps although there is an event. Returns whether that was necessary: after a
-/// second it is.
+/// Wakes a listener that still sleeps after a second, although there is an event. Returns whether that was
+/// necessary.
 fn wakes<N: Naming, R: Wait + Clock>(rt: &R, late: &Late<'_, N>, is_done: &AtomicU64) -> bool {
     for _ in 0..1000 {
         if is_done.load(Ordering::SeqCst) != 0 {

@@ -1,4 +1,4 @@
-//! A listener sleeps until there is an event, each of 10,000 times, and uses no processor in its sleep.
+//! A listener sleeps until there is an event, 10,000 times, and uses no processor time while it sleeps.
 ghost use Rattle.std.specs.Prelude.{◌≡◌};
 
 use crate::fixtures::made;
@@ -16,7 +16,7 @@ use std::time::{Clock, CpuClock, Duration};
 
 const EVENTS: u64 = 10_000;
 
-/// Waits and reads by turns. Returns how often a wait was followed by an event.
+/// Waits and reads in turn. Returns how often there was an event after a wait.
 fn reads<R: Wait>(
     rt: &R,
     log: &RwLock<UeventLog>,
@@ -35,7 +35,7 @@ fn reads<R: Wait>(
     events
 }
 
-/// Whether hardly any processor time passes in the process in a second.
+/// Whether the process uses hardly any processor time in a second.
 fn are_asleep<R: Wait + Clock + CpuClock>(rt: &R) -> bool {
     sleep(rt, Duration::from_millis(10));
     let before = rt.process_cpu_time();
@@ -58,7 +58,7 @@ pub(super) fn adds<N: Naming, R: Wait>(
     is_added && 0 < posts.slots() && posts.notify(0).is_ok()
 }
 
-/// Adds each event once the one before it was read, a little later each time.
+/// Adds each event once the one before it was read, with a short delay that differs from event to event.
 fn adds_all<N: Naming, R: Wait + Clock + CpuClock>(
     rt: &R,
     tree: &SharedTree<N>,

@@ -13,25 +13,25 @@ use std::sync::{RwLock, Wait};
 
 #[derive(Clone, Copy)]
 pub(crate) enum Step {
-    /// A node of this name is made in the directory, and is not active yet.
+    /// A node with this name is made in the directory, and is not activated yet.
     Makes(Key, &'static [u8], Node),
     Activates(Key),
-    /// This number of changes of one node is added.
+    /// This number of changes of one node is reported.
     Changes(Key, u32),
-    /// It is moved into the directory, under this name.
+    /// The node is moved into the directory, under this name.
     Moves(Key, Key, &'static [u8]),
     Removes(Key),
-    /// A device of this name is added in the directory, with these groups, or it is refused.
+    /// A device with this name is added in the directory, with these groups, or is refused for this reason.
     Adds(Key, &'static [u8], &'static [Group<'static>], Option<Refusal>),
     /// The device of this directory is activated.
     ActivatesDevice(Key),
-    /// A device is removed, or that is refused.
+    /// A device is removed, or its removal is refused for this reason.
     Unplugs(Key, Option<Refusal>),
     /// The listener sleeps until there is something to read.
     Waits,
-    /// What the listener reads: an event of this action, with this path, and of a move the path before.
+    /// The listener reads an event with this action and this path and, for a move, with the path before it.
     Event(Action, &'static [u8], Option<&'static [u8]>),
-    /// A loss, after which it goes on at this number.
+    /// The listener reads that events were lost, and that it goes on at this number.
     Loss(u64),
     Nothing,
 }
@@ -49,7 +49,7 @@ fn removes<N: Naming, R: Wait>(
     Ok(())
 }
 
-/// Removes a device. Why it is not removed, if it is not.
+/// Removes a device. Returns the refusal if it is not removed.
 fn unplugs<N: Naming, R: Wait>(
     rt: &R,
     tree: &SharedTree<N>,
@@ -66,7 +66,7 @@ fn unplugs<N: Naming, R: Wait>(
     }
 }
 
-/// Takes a step of those that the tree takes under one lock. The list is locked under it.
+/// Takes one of the steps that are made under one lock of the tree. The list is locked under that lock.
 fn makes<N: Naming, R: Wait>(
     rt: &R,
     tree: &SharedTree<N>,
@@ -137,7 +137,7 @@ fn is_right<N: Naming, R: Wait>(
     }
 }
 
-/// Takes the steps. The first that does not find what it must stops the test.
+/// Takes the steps. The first step that does not find what it must find stops the test.
 pub(crate) fn walk<N: Naming, R: Abort + Wait>(
     rt: &R,
     tree: &SharedTree<N>,

@@ -1,5 +1,5 @@
-//! A listener reads each activation, change, move and removal once, in order. One that is behind reads how
-//! much it lost.
+//! A listener reads each activation, change, move and removal once, in order. A listener that is behind reads
+//! how much it has lost.
 ghost use Rattle.std.specs.Prelude.{◌≡◌};
 
 use super::steps::{Step, walk};
@@ -36,7 +36,7 @@ const LATER_D: Key = Key {
     generation: 2,
 };
 
-/// The third.
+/// The third directory in the slot of `D`.
 const LAST_D: Key = Key {
     slot: 1,
     generation: 3,
@@ -97,7 +97,8 @@ const FAN: Attribute<'static> = Attribute {
     tag: 2,
 };
 
-/// Five nodes with the directory of their device; the group `fans` has no file, and so no directory.
+/// Groups that make four nodes, with the directory of their device. The group `fans` has no file, and so no
+/// directory.
 const GROUPS: [Group<'static>; 3] = [
     Group {
         name: None,
@@ -113,8 +114,9 @@ const GROUPS: [Group<'static>; 3] = [
     },
 ];
 
-/// A device is reported once, and so is its removal, however often either is asked for. One that is refused,
-/// for a name that is there or for lack of slots, is not reported, and leaves nothing. There are eight slots.
+/// A device is reported once, and so is its removal, however often either is requested. A device that is
+/// refused, because its name is taken or slots are lacking, is not reported and leaves nothing behind. There
+/// are eight slots.
 static DEVICES: [Step; 24] = [
     Step::Adds(ROOT, b"d", &GROUPS, None),
     Step::Waits,
@@ -137,13 +139,13 @@ static DEVICES: [Step; 24] = [
     Step::Event(Action::Add, b"/f", None),
     Step::Unplugs(LATER_D, None),
     Step::Event(Action::Remove, b"/f", None),
-    // A directory that was not active is not reported when it is removed.
+    // If a directory was not activated, its removal is not reported.
     Step::Makes(ROOT, b"idle", Node::Dir),
     Step::Unplugs(LAST_D, None),
     Step::Nothing,
 ];
 
-/// Takes these steps with a new tree, and a list that keeps 16 events.
+/// Takes these steps with a new tree and a list that keeps 16 events.
 fn events<N: Naming, R: Abort + Wait>(
     rt: &R,
     alloc: Global,

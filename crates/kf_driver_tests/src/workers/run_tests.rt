@@ -8,7 +8,7 @@ use std::sync::Wait;
 use std::sync::atomic::Ordering;
 use std::thread::Threads;
 
-/// A script, on a tree of this many slots and holds of each node, and its replies.
+/// A script and its replies, on a tree with this many slots and at most this many holds of each node.
 #[derive(Clone, Copy)]
 struct Run {
     slots: u32,
@@ -20,8 +20,8 @@ struct Run {
     texts: (u64, u64),
 }
 
-/// A `stat` gets its reply while a removal waits for a show, as for a file that is being removed. A thread
-/// that runs one worker after the other never ends it well.
+/// A `stat` gets its reply while a removal waits for a show. The reply says that the file is being removed.
+/// If one thread ran the workers one after another, this run would never end well.
 const REMOVED: Run = Run {
     slots: 16,
     holds: 100,
@@ -49,7 +49,7 @@ const MET: Run = Run {
     texts: (2, 0),
 };
 
-/// A file is there once its text is.
+/// A file exists only once its text has been set up.
 const LATE: Run = Run {
     slots: 16,
     holds: 100,
@@ -60,7 +60,7 @@ const LATE: Run = Run {
     texts: (2, 0),
 };
 
-/// Texts of files that are refused.
+/// The texts of files that are refused are dropped.
 const REFUSED: Run = Run {
     slots: 2,
     holds: 100,
@@ -70,7 +70,7 @@ const REFUSED: Run = Run {
     texts: (3, 2),
 };
 
-/// Texts of files that are gone, once another has their slot.
+/// The text of a file that is gone is dropped once another file has its slot.
 const GONE: Run = Run {
     slots: 2,
     holds: 100,
@@ -80,7 +80,7 @@ const GONE: Run = Run {
     texts: (3, 2),
 };
 
-/// A node has as many holds as the run allows.
+/// A node cannot have more holds than the run allows.
 const HELD: Run = Run {
     slots: 16,
     holds: 1,
@@ -90,7 +90,8 @@ const HELD: Run = Run {
     texts: (1, 0),
 };
 
-/// What boards find without the lock of the tree has the same count of holds as what is found under it.
+/// Holds that boards take without the tree's lock, and holds that are taken under it, count towards the same
+/// limit.
 const HELD_BY_ALL: Run = Run {
     slots: 16,
     holds: 4,

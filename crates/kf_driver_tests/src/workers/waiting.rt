@@ -1,4 +1,5 @@
-//! Callbacks of a run, which count texts and wait for one another: what is stored says for what.
+//! Callbacks of a run, which count texts and wait for one another. The text that is stored says what a store
+//! waits for.
 
 use kf_files::{Fault, Page};
 use kf_shared::{Naming, SharedTree};
@@ -7,15 +8,16 @@ use kf_workers::ScriptOps;
 use std::sync::Wait;
 use std::sync::atomic::{AtomicU64, Ordering};
 
-/// A show turns until `told` is stored, and so does the first text `late` of a file.
+/// A show spins until `told` is stored. So does the callback for the first text of a file, if that text is
+/// `late`.
 #[derive(Drop)]
 pub(crate) struct Waiting {
-    /// How many that turn so are inside.
+    /// How many callbacks have begun to spin until `told` is stored.
     inside: AtomicU64,
     told: AtomicU64,
     /// How many texts were begun.
     pub(crate) begun: AtomicU64,
-    /// How many of them were dropped: an empty text took their place.
+    /// How many of them were dropped, because an empty text took their place.
     pub(crate) let_go: AtomicU64,
 }
 
@@ -28,7 +30,7 @@ pub(crate) fn new_waiting() -> Waiting {
     }
 }
 
-/// Turns until this many are counted there. Fault 16 if they are not for long.
+/// Spins until the counter has reached this count. Fails with Fault 16 if this takes too long.
 fn turn_until(count: u64, counter: &AtomicU64) -> Result<(), Fault> {
     for _ in 0..1_000_000_000u64 {
         if counter.load(Ordering::SeqCst) >= count {
@@ -38,7 +40,7 @@ fn turn_until(count: u64, counter: &AtomicU64) -> Result<(), Fault> {
     Err(Fault { number: 16 })
 }
 
-/// Turns until the removal of `/x` has begun. Fault 16 if none does for long.
+/// Spins until the removal of `/x` has begun. Fails with Fault 16 if this takes too long.
 fn turn_until_doomed<N: Naming, R: Wait>(rt: &R, tree: &SharedTree<N>) -> Result<(), Fault> {
     for _ in 0..1_000_000_000u64 {
         if tree.read(rt).state().lookup(b"/x").is_err() {
@@ -69,8 +71,8 @@ impl ScriptOps for Waiting {
         Ok(())
     }
 
-    /// A store of `inside` turns until another is inside, one of `sixteen` until this many are, and one of
-    /// `doomed` until the file `/x` is no live node any more.
+    /// A store of `inside` spins until another callback is inside, a store of `sixteen` until sixteen are,
+    /// and a store of `doomed` until the file `/x` is no longer a live node.
     fn store<N: Naming, R: Wait>(
         &self,
         rt: &R,

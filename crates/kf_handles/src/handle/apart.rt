@@ -1,5 +1,5 @@
-//! A box taken apart into its pointer and its allocator, which the module above reaches. What the box owned,
-//! they own.
+//! A box taken apart into its pointer and its allocator, which the module above can access. The two own what
+//! the box owned.
 ghost use Rattle.std.specs.Prelude.{◌≡◌};
 ghost use Rattle.std.specs.Box.Ownership.{box_owns};
 
@@ -28,7 +28,7 @@ impl<T, A: Allocator> Apart<T, A> {
         Apart { ptr, alloc }
     }
 
-    /// The box again.
+    /// Makes the box again.
     pub fn into_box(self) -> Box<T, A>
         ensures { result.value ≡ self.value }
     {

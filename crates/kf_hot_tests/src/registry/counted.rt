@@ -1,4 +1,4 @@
-//! A value that counts who calls it, by which a test sees that nobody does when it came back.
+//! A value that counts its callers. So a test can check that nobody is inside when the value is returned.
 
 use kf_registry::{Published, Taken};
 use std::sync::atomic::{AtomicU64, Ordering};
@@ -22,7 +22,7 @@ impl Counted {
         }
     }
 
-    /// Goes in and out, and returns its number.
+    /// Goes in and out, and returns the value's number.
     pub(crate) fn call(&self) -> u64 {
         self.enter();
         self.leave();
@@ -41,7 +41,7 @@ impl Counted {
     }
 }
 
-/// The number of a value that came back, and how often it was called. None if somebody is inside.
+/// The number of a returned value, and how often it was called. None if somebody is inside.
 pub(crate) fn counts_of(value: Counted) -> Option<(u64, u64)> {
     if value.inside.load(Ordering::SeqCst) != 0 {
         return None;
@@ -49,7 +49,7 @@ pub(crate) fn counts_of(value: Counted) -> Option<(u64, u64)> {
     Some((value.number, value.calls.load(Ordering::SeqCst)))
 }
 
-/// The same of one that was taken.
+/// The same for a value that was taken.
 pub(crate) fn back(taken: Taken<Counted>) -> Option<(u64, u64)> {
     counts_of(taken.into_value())
 }

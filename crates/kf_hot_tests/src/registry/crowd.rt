@@ -12,7 +12,7 @@ use std::thread::{Threads, for_each_mut, join};
 
 const PATH: &[u8] = b"/one";
 
-/// What a thread calls by, how many calls found a value, and how many did not.
+/// A thread's caller, how many of its calls found a value, and how many did not.
 #[derive(Drop)]
 struct Job<N: Naming> {
     caller: ValueCaller<N>,
@@ -45,8 +45,8 @@ fn calls<N: Naming, R: Wait>(
     }
 }
 
-/// Swaps a thousand times, once all four have begun. Returns how many calls the values had that came back,
-/// and None if one was not that before, or somebody was inside.
+/// Swaps a thousand times, once all four threads have begun. Returns how many calls the returned values had,
+/// or None if one of them was not the previous value, or had somebody inside.
 fn swaps<N: Naming, R: Wait>(
     rt: &R,
     registry: &Registry<N, Counted>,
@@ -70,7 +70,7 @@ fn swaps<N: Naming, R: Wait>(
     Some(all)
 }
 
-/// What a thread calls, publishes and takes by.
+/// A caller, by which a thread calls, publishes and takes values.
 pub(crate) fn own_caller<N: Naming, R: Abort + Wait>(
     rt: &R,
     registry: &Registry<N, Counted>,
@@ -100,8 +100,8 @@ fn jobs<N: Naming, R: Abort + Wait>(
     jobs
 }
 
-/// A thousand swaps under four callers: each call finds a value, and each value comes back with all its
-/// calls.
+/// A thousand swaps while four threads call: each call finds a value, and each value is returned with all its
+/// calls counted.
 pub(crate) fn under_swaps<N: Naming + Send + Sync, R: Threads + Abort + Wait + Sync>(
     rt: &R,
     alloc: Global,
@@ -143,7 +143,7 @@ pub(crate) fn under_swaps<N: Naming + Send + Sync, R: Threads + Abort + Wait + S
     }
 }
 
-/// Stays inside until the owner begins to take the value, and a while longer.
+/// Stays inside until the owner begins to take the value, and a little longer.
 fn stays<N: Naming, R: Wait>(
     rt: &R,
     registry: &Registry<N, Counted>,
@@ -166,7 +166,7 @@ fn stays<N: Naming, R: Wait>(
     stayed.is_ok()
 }
 
-/// Takes the value once a call is inside. True if it came back with nobody inside.
+/// Takes the value once a call is inside. Returns true if the value was returned with nobody inside.
 fn takes<N: Naming, R: Wait>(
     rt: &R,
     registry: &Registry<N, Counted>,
@@ -185,7 +185,7 @@ fn takes<N: Naming, R: Wait>(
     }
 }
 
-/// A value that is taken while a call is inside comes back after the call.
+/// A value that is taken while a call is inside is returned only after the call.
 pub(crate) fn taken_in_use<N: Naming + Send + Sync, R: Threads + Abort + Wait + Sync>(
     rt: &R,
     new: NewRegistry<Counted>,

@@ -1,4 +1,4 @@
-//! Hot values, by one thread and under four callers, each with its lane.
+//! Hot values, in one thread and under four callers, each in its lane.
 ghost use Rattle.std.specs.Prelude.{◌≡◌};
 
 use crate::registry::counted::{Counted, back, counts_of};
@@ -15,7 +15,7 @@ use std::thread::{Threads, for_each_mut, join};
 
 const PATH: &[u8] = b"/hot";
 
-/// Why a hot value is not published, with the number of the value that came back.
+/// Publishes a hot value, which must be refused. Returns the number of the returned value, and the refusal.
 fn refused_of<N: Naming, R: Abort + Wait>(
     rt: &R,
     registry: &Registry<N, Counted>,
@@ -46,7 +46,7 @@ fn published<N: Naming, R: Abort + Wait>(
     }
 }
 
-/// Takes the value back: its number, and how often it was called.
+/// Takes the value back. Returns its number, and how often it was called, or None if somebody is inside.
 fn takes_back<N: Naming, R: Abort + Wait>(
     rt: &R,
     registry: &Registry<N, Counted>,
@@ -63,7 +63,8 @@ fn takes_back<N: Naming, R: Abort + Wait>(
     unreachable!()
 }
 
-/// Swaps the value: the number of the former, and how often that was called.
+/// Swaps the value. Returns the number of the former value, and how often that one was called, or None if the
+/// swap was refused or somebody is inside.
 fn swapped<N: Naming, R: Wait>(
     rt: &R,
     registry: &Registry<N, Counted>,
@@ -80,7 +81,7 @@ fn called<R: Wait>(rt: &R, caller: &mut HotCaller<Counted>) -> Option<u64> {
     caller.call(rt, |value| value.call()).ok()
 }
 
-/// Each refusal gives the value back, in the documented order.
+/// Each refusal returns the value. The refusals come in the documented order.
 fn refusals<N: Naming, R: Abort + Wait>(
     rt: &R,
     registry: &Registry<N, Counted>,
@@ -119,8 +120,8 @@ fn refusals<N: Naming, R: Abort + Wait>(
     assert!(rt; registry.take(rt, own, b"/other").ok().and_then(back) == Some((8, 0)));
 }
 
-/// A hot value is called by its passes and by any caller, only its owner takes it, and its path is free after
-/// that.
+/// A hot value is called through its gate and by any caller, only its owner takes it, and after that its path
+/// is free.
 fn life<N: Naming, R: Abort + Wait>(
     rt: &R,
     registry: &Registry<N, Counted>,
@@ -159,7 +160,7 @@ fn life<N: Naming, R: Abort + Wait>(
     assert!(rt; own.call(rt, registry, PATH, |value| value.call()) == Err(Refusal::NoEntry));
 }
 
-/// All that one thread sees, in a registry that may have two values at once.
+/// The tests of one thread, in a registry that may have two values at once.
 pub(crate) fn alone<N: Naming, R: Abort + Wait>(rt: &R, new: NewRegistry<Counted>)
     requires { new.tree.master.table ≡ N.table }
 {
@@ -171,7 +172,7 @@ pub(crate) fn alone<N: Naming, R: Abort + Wait>(rt: &R, new: NewRegistry<Counted
     }
 }
 
-/// What a thread calls by, and how many of its calls found the value.
+/// A thread's caller, its lane, and how many of its calls found the value.
 #[derive(Drop)]
 struct Job<N: Naming> {
     own: ValueCaller<N>,
@@ -179,7 +180,8 @@ struct Job<N: Naming> {
     found: u64,
 }
 
-/// Calls the value through its gate until it is taken. A thread that comes too late finds nothing.
+/// Calls each value through its gate until that value is taken, and stops once the owner is done. A thread
+/// that comes too late for a value finds nothing.
 fn calls<N: Naming, R: Wait>(
     rt: &R,
     registry: &Registry<N, Counted>,
@@ -207,8 +209,8 @@ fn calls<N: Naming, R: Wait>(
     }
 }
 
-/// Swaps a hot value ten times for the next. Returns how many calls those had that came back; None if one was
-/// not the one before, or with somebody inside.
+/// Swaps a hot value ten times for the next one. Returns how many calls the returned values had, or None if
+/// one of them was not the previous value, or had somebody inside.
 fn swaps<N: Naming, R: Wait>(
     rt: &R,
     registry: &Registry<N, Counted>,
@@ -227,7 +229,7 @@ fn swaps<N: Naming, R: Wait>(
 }
 
 /// Publishes a hundred values one after the other, swaps each ten times, and takes it. Returns how many calls
-/// they had; None if one came back that was not the one before, or with somebody inside.
+/// all returned values had, or None if one of them was not the expected value, or had somebody inside.
 fn renews<N: Naming, R: Abort + Wait>(
     rt: &R,
     registry: &Registry<N, Counted>,
@@ -256,8 +258,8 @@ fn renews<N: Naming, R: Abort + Wait>(
     Some(all)
 }
 
-/// A hundred hot values under four callers, each swapped ten times: each comes back with all its calls, and
-/// with nobody inside.
+/// A hundred hot values under four callers, each swapped ten times. Each value is returned with all its calls
+/// counted, and with nobody inside.
 pub(crate) fn under_calls<N: Naming + Send + Sync, R: Threads + Abort + Wait + Sync>(
     rt: &R,
     alloc: Global,

@@ -1,4 +1,4 @@
-//! What one thread sees: each call, and each refusal in its order.
+//! The registry in one thread: each call, and each refusal in its order.
 ghost use Rattle.std.specs.Prelude.{◌≡◌};
 
 use crate::registry::counted::{Counted, back};
@@ -9,7 +9,7 @@ use kf_shared::Naming;
 use std::process::Abort;
 use std::sync::Wait;
 
-/// Why a value was not published; None if it was.
+/// Publishes a value. Returns None, or the number of the returned value and the refusal.
 fn refused_of<N: Naming, R: Wait>(
     rt: &R,
     registry: &Registry<N, Counted>,
@@ -23,7 +23,7 @@ fn refused_of<N: Naming, R: Wait>(
     }
 }
 
-/// What a call of a path returns.
+/// Calls the value at a path. Returns the value's number, or the refusal.
 fn called<N: Naming, R: Wait>(
     rt: &R,
     registry: &Registry<N, Counted>,
@@ -33,7 +33,7 @@ fn called<N: Naming, R: Wait>(
     caller.call(rt, registry, path, |value| value.call())
 }
 
-/// What came back from a path: its number, and how often it was called.
+/// Takes the value at a path. Returns its number, and how often it was called, or None if somebody is inside.
 fn taken<N: Naming, R: Wait>(
     rt: &R,
     registry: &Registry<N, Counted>,
@@ -43,7 +43,8 @@ fn taken<N: Naming, R: Wait>(
     Ok(back(registry.take(rt, caller, path)?))
 }
 
-/// What came back from a swap, or the number of the value that a refused swap gave back.
+/// Swaps the value at a path. Returns the number of the former value, and how often it was called (None if
+/// somebody is inside); or the number of the value that the refused swap returned, and the refusal.
 fn swapped<N: Naming, R: Wait>(
     rt: &R,
     registry: &Registry<N, Counted>,
@@ -57,7 +58,7 @@ fn swapped<N: Naming, R: Wait>(
     }
 }
 
-/// Publishes, calls, swaps and takes.
+/// Publishes, calls, swaps and takes values.
 fn life<N: Naming, R: Abort + Wait>(
     rt: &R,
     registry: &Registry<N, Counted>,
@@ -77,7 +78,7 @@ fn life<N: Naming, R: Abort + Wait>(
     assert!(rt; taken(rt, registry, caller, b"/one") == Ok(Some((3, 1))));
 }
 
-/// Each refusal gives the value back, and changes nothing.
+/// Each refused call returns the value that it was passed, if any, and changes nothing.
 fn refusals<N: Naming, R: Abort + Wait>(
     rt: &R,
     registry: &Registry<N, Counted>,
@@ -105,7 +106,7 @@ fn refusals<N: Naming, R: Abort + Wait>(
     assert!(rt; called(rt, registry, caller, b"/three") == Ok(5));
 }
 
-/// A value that came back keeps its slot until it is spent.
+/// A value that was taken keeps its slot until it is passed to `into_value`.
 fn room<N: Naming, R: Abort + Wait>(
     rt: &R,
     registry: &Registry<N, Counted>,
@@ -123,7 +124,7 @@ fn room<N: Naming, R: Abort + Wait>(
     assert!(rt; refused_of(rt, registry, caller, b"/four", 6).is_none());
 }
 
-/// The names that are published, in byte order.
+/// The registry lists the published names, in byte order.
 fn names<N: Naming, R: Abort + Wait>(
     rt: &R,
     registry: &Registry<N, Counted>,
@@ -143,7 +144,7 @@ fn names<N: Naming, R: Abort + Wait>(
     assert!(rt; after.len() == 1);
 }
 
-/// All that one thread sees, in a registry that may have three values at once.
+/// The tests of one thread, in a registry that may have three values at once.
 pub(crate) fn alone<N: Naming, R: Abort + Wait>(rt: &R, new: NewRegistry<Counted>)
     requires { new.tree.master.table ≡ N.table }
 {

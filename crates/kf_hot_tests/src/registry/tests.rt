@@ -1,4 +1,4 @@
-//! The registry by one thread, and under four callers.
+//! The registry in one thread, and under four callers.
 
 use crate::registry::counted::Counted;
 use crate::registry::crowd::{taken_in_use, under_swaps};

@@ -1,11 +1,12 @@
-//! The canonical list in place of the stored commands.
+//! Tests compaction, which puts the canonical list in place of the stored commands.
 
 use super::steps::{Look, Step, first_wrong};
 use crate::answers::all_right;
 
-/// `/a` doomed with a hidden file and a directory below it, `/b` live with one hidden file and one doomed,
-/// and `/c` off. Nine are below the root, five doomed (three of them inside `/a`), two hidden. After the
-/// removal of `/a` five are below the root, one doomed in a directory that is not, one hidden.
+/// A forest: `/a` is doomed, with a hidden file and a directory below it. `/b` is live, with one hidden file
+/// and one doomed file. `/c` is not activated. Nine nodes are below the root; five are doomed (three of these
+/// inside `/a`), and two are hidden. After the removal of `/a`, five nodes are below the root; one is doomed
+/// in a directory that is not doomed, and one is hidden.
 const FOREST: [Step; 31] = [
     Step::Is(Look::Counts(0, 0)),
     Step::Directory(b"/b", 1),

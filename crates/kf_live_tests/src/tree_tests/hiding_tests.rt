@@ -1,4 +1,4 @@
-//! Hiding and showing, of what is activated or doomed meanwhile.
+//! Tests hiding files, and showing them again after they have been activated or doomed.
 
 use super::steps::{Look, Step, first_wrong};
 use crate::answers::all_right;

@@ -1,4 +1,4 @@
-//! Trees that the tests begin with, and nodes in them.
+//! Makes the trees that the tests begin with, and adds and removes nodes in them.
 
 ghost use Rattle.std.specs.Prelude.{◌≡◌, slice_get, IfSome, Some, None};
 
@@ -46,7 +46,7 @@ fn vacant(state: &State, slot: u32) -> Option<Key>
     }
 }
 
-/// A node at a path, in this slot if it is vacant.
+/// Adds a node at a path, in this slot if the slot is vacant.
 pub(super) fn add(
     state: &mut State,
     path: &[u8],
@@ -59,7 +59,7 @@ pub(super) fn add(
     state.create(parent, name, node, live, next)
 }
 
-/// Removes what stands at a path, with all below it.
+/// Removes the node at a path and everything below it.
 pub(super) fn remove(state: &mut State, path: &[u8]) -> Result<(), Refusal> {
     let top = state.walk(path)?;
     let keys = state.doom(top)?;

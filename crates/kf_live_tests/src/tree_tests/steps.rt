@@ -1,5 +1,5 @@
-//! Steps of a worked example: a call each, and what it must return. Nodes are named by their slots, each with
-//! its first key.
+//! Steps of a worked example. Each is a call, with what the call must return. A node is named by its slot,
+//! and has the first key of that slot.
 
 use super::planting::{TEXT, add, key, new_state, remove};
 use kf_core::{Command, Key, Node, Refusal};
@@ -8,47 +8,48 @@ use std::alloc::Global;
 
 #[derive(Clone, Copy)]
 pub(super) enum Step {
-    /// A live directory is made at the path, in this slot.
+    /// Makes a live directory at the path, in this slot.
     Directory(&'static [u8], u32),
-    /// The same of a file.
+    /// Makes a live file at the path, in this slot.
     File(&'static [u8], u32),
-    /// A directory that is not activated, and why it is refused.
+    /// Makes a directory that is not activated. If there is a reason here, the call is refused for it.
     Off(&'static [u8], u32, Option<Refusal>),
-    /// A file that is not activated.
+    /// Makes a file that is not activated.
     OffFile(&'static [u8], u32),
     Activate(u32),
-    /// These slots are doomed, in this order.
+    /// Dooms a subtree: the nodes in these slots, in this order.
     Doom(u32, &'static [u32]),
-    /// Whether it was linked.
+    /// Unlinks a node. The call returns whether the node was linked, or this refusal.
     Unlink(u32, Result<bool, Refusal>),
     Remove(&'static [u8], Option<Refusal>),
     Hide(u32, Option<Refusal>),
-    /// Whether it was hidden.
+    /// Shows a file again. The call returns whether the file was hidden.
     Show(u32, bool),
     Compact,
     Is(Look),
 }
 
-/// What is seen of a tree, which changes nothing.
+/// A look at the tree, which changes nothing, with what it must find.
 #[derive(Clone, Copy)]
 pub(super) enum Look {
-    /// The slot that is found live.
+    /// The path leads to a live node in this slot.
     Live(&'static [u8], u32),
-    /// Nothing live is found.
+    /// The path leads to no live node.
     Absent(&'static [u8]),
-    /// Activated, doomed and hidden, as `stat` reports them.
+    /// Whether the node is activated, doomed and hidden, as `stat` reports.
     Marks(u32, (bool, bool, bool)),
-    /// The names that are listed.
+    /// The names that a listing of the directory returns.
     Shows(u32, &'static [&'static [u8]]),
-    /// The kinds of the stored commands, by their letters.
+    /// The stored commands, each as the letter of its kind.
     Stored(&'static [u8]),
-    /// The slots that they are about.
+    /// The slots that the stored commands are about.
     About(&'static [u32]),
-    /// How many are stored, and how many a compaction leaves at most.
+    /// How many commands are stored, and how many a compaction leaves at most.
     Counts(usize, usize),
 }
 
-/// The place of the first step that returns something else than it must, in a new tree of this many slots.
+/// Runs the steps on a new tree with this many slots. Returns the place of the first step that does not
+/// return what it must, if there is one.
 pub(super) fn first_wrong(
     alloc: Global,
     slots: u32,
@@ -101,7 +102,7 @@ fn hide(state: &mut State, slot: u32) -> Result<(), Refusal> {
     Ok(())
 }
 
-/// Whether the keys are the first ones of these slots.
+/// Whether these are the first keys of these slots, in this order.
 fn are(keys: &[Key], slots: &[u32]) -> bool {
     for (found, slot) in keys.iter().zip(slots) {
         if *found != key(*slot) {
@@ -137,7 +138,7 @@ fn shows(state: &State, slot: u32, names: &[&[u8]]) -> bool {
     list.len() == names.len()
 }
 
-/// The letter of each stored command: Create, Activate, Doom, Unlink, Rename, Hide, Show.
+/// The first letter of a stored command: Create, Activate, Doom, Unlink, Rename, Hide or Show.
 fn letter(command: &Command) -> u8 {
     match command {
         Command::Create { .. } => b'C',

@@ -10,8 +10,8 @@ use kf_pages::Want;
 use kf_replies::tell_stat;
 use kf_script::{Board, Reply, Request};
 
-// Each reply stays in its own function: the choice among them is then short, and stays
-// where a line was parsed.
+// Each reply has its own function, which is not inlined. So the match over the requests is short, and is
+// inlined into the code that parses a line.
 impl PlainBoard {
     /// `mkdir`: the new key.
     #[inline(never)]

@@ -18,7 +18,7 @@ use kf_pages::{FileError, Want};
 use kf_replies::{tell_count, tell_error};
 use kf_script::Reply;
 
-/// Writes the text of an open file that was seen to, from an offset on, or why there is none.
+/// Writes the prepared text of an open file, from an offset on, or why there is none.
 fn tell_text(
     reply: &mut Reply,
     told: Result<(), FileError>,
@@ -59,7 +59,7 @@ impl PlainBoard {
         }
     }
 
-    /// Notifies the file at a path: each open file on its slot has changed.
+    /// Notifies the file at a path: each open file on its slot now counts as changed.
     pub(super) fn notify(&mut self, path: &[u8]) -> Result<(), Refusal>
         ensures notified { IfOk result
             (λ _. (key : Key) × (notified_key self.old path.now ≡ Ok key)
@@ -95,8 +95,8 @@ impl PlainBoard {
         }
     }
 
-    /// Reads the file of a letter from an offset on: puts the bytes, at most 4,095, into the reply, or why
-    /// there are none.
+    /// Reads the file of a letter from an offset on. Puts the bytes, at most 4,095, into the reply, or the
+    /// reason why there are none.
     pub(super) fn read(
         &mut self,
         file: usize,
@@ -123,8 +123,8 @@ impl PlainBoard {
         Ok(())
     }
 
-    /// Writes a text into the file of a letter: puts the number that its store returned into the reply, or
-    /// why there is none.
+    /// Writes a text to the file of a letter. Puts the number that the file's store returned into the reply,
+    /// or the reason why there is none.
     pub(super) fn write(
         &mut self,
         file: usize,

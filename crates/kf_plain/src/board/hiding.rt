@@ -30,7 +30,7 @@ impl PlainBoard {
         }
     }
 
-    /// Shows the file at a path again, if the board has its token, and spends that.
+    /// Shows the file at a path again, if the board has its token, and spends the token.
     pub(super) fn show(&mut self, path: &[u8]) -> Result<(), Refusal>
         ensures shown { IfOk result (λ _. (key : Key)
             × (shown_key self.old path.now ≡ Ok key) × (self.new ≡ with_shown self.old key)) }

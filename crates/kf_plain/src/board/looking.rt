@@ -24,7 +24,7 @@ impl PlainBoard {
         state.stat(key)
     }
 
-    /// Writes the names in a live directory.
+    /// Writes the names of a live directory's live children.
     pub(super) fn list(&self, path: &[u8], reply: &mut Reply) -> Result<(), Refusal>
         ensures listed { IfOk result (λ _. (dir : Key) × (listed_dir self.now path.now ≡ Ok dir)
             × ((names : List (List ℕ)) × IsListing self.now.log.tree dir None name_limit names

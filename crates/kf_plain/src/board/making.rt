@@ -15,7 +15,7 @@ use super::PlainBoard;
 use kf_core::{Key, Node, Refusal};
 
 impl PlainBoard {
-    /// A directory at a path, activated if it is to be live.
+    /// Makes a directory at a path, and activates it if it is to be live.
     pub(super) fn make_directory(&mut self, path: &[u8], is_live: bool) -> Result<Key, Refusal>
         ensures made { IfOk result (λ key. IsFreeKey self.old (Some key)
             × ((spot : Spot) × (new_spot self.old.log path.now Dir (Some key) ≡ Ok spot)
@@ -28,7 +28,7 @@ impl PlainBoard {
         self.nodes.create_at(path, Node::Dir, is_live, next)
     }
 
-    /// A live file of this mode and text at a path.
+    /// Makes a live file of this mode and text at a path.
     pub(super) fn make_file(&mut self, path: &[u8], mode: u16, text: &[u8]) -> Result<Key, Refusal>
         ensures made { IfOk result (λ key. IsFreeKey self.old (Some key)
             × ((spot : Spot) × (new_spot self.old.log path.now (file_node mode (Some key)) (Some key)
@@ -48,8 +48,8 @@ impl PlainBoard {
         Ok(key)
     }
 
-    /// A copy of a new file's text, taken before anything is changed. If there is no memory for it, any
-    /// other cause to refuse the file comes first.
+    /// A copy of a new file's text, made before anything is changed. If there is no memory for it, any other
+    /// cause against the file comes first.
     fn copy_text(
         &self,
         path: &[u8],
@@ -69,7 +69,7 @@ impl PlainBoard {
         }
     }
 
-    /// A live link at a path to the node at another one.
+    /// Makes a live link at a path to the node at another path.
     pub(super) fn make_link(&mut self, path: &[u8], target: &[u8]) -> Result<Key, Refusal>
         ensures made { IfOk result (λ key. IsFreeKey self.old (Some key)
             × ((link : Key × Spot) × (new_link_spot self.old.log path.now target.now (Some key) ≡ Ok link)
@@ -93,7 +93,7 @@ impl PlainBoard {
         self.nodes.activate_at(path)
     }
 
-    /// Moves the node at a path into the directory at another, under a name.
+    /// Moves the node at a path into the directory at another path, under a name.
     pub(super) fn move_node(&mut self, path: &[u8], dir: &[u8], name: &[u8]) -> Result<(), Refusal>
         ensures moved { IfOk result
             (λ _. (keys : Key × Key) × (moved_key self.old.log path.now dir.now name.now ≡ Ok keys)
@@ -105,7 +105,7 @@ impl PlainBoard {
         self.nodes.move_at(path, dir, name)
     }
 
-    /// Puts the canonical list of the tree in place of the stored commands.
+    /// Replaces the stored commands with the canonical list of the tree.
     pub(super) fn compact(&mut self) -> Result<(), Refusal>
         ensures compacted { IfOk result
             (λ _. (commands : List Command) × IsCanonical self.old.log.tree commands

@@ -14,7 +14,7 @@ use super::Nodes;
 use kf_core::{Key, Node, Refusal};
 
 impl Nodes {
-    /// Links a new node in a directory, under the next key, activated if it is to be live.
+    /// Links a new node in a directory, under the next key, and activates it if it is to be live.
     /// Refused as `State::create` is; after a refusal nothing is changed.
     pub fn create(
         &mut self,
@@ -59,8 +59,8 @@ impl Nodes {
         self.state.rename(key, dir, name)
     }
 
-    /// Puts the canonical list of this tree in place of the stored commands, as `State::compact` does.
-    /// Only `NoMemory`; then nothing is changed.
+    /// Replaces the stored commands with the canonical list of this tree, as `State::compact` does.
+    /// The only refusal is `NoMemory`; after it nothing is changed.
     pub fn compact(&mut self) -> Result<(), Refusal>
         ensures compacted { IfOk result
             (λ _. (commands : List Command) × IsCanonical self.old.log.tree commands

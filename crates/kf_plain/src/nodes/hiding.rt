@@ -14,7 +14,7 @@ ghost use Rattle.kf_plain.specs.Settled.{IsWhyFrom};
 use super::Nodes;
 use kf_core::{Key, Refusal};
 
-/// What can show a hidden file again: its key, and the number of the caller that hides it.
+/// The token that can show a hidden file again: its key, and the number of the caller that hides it.
 #[derive(Clone, Copy)]
 pub struct BoardToken {
     pub key: Key,
@@ -22,11 +22,11 @@ pub struct BoardToken {
 }
 
 impl Nodes {
-    /// Hides a linked file by a new hold on it (`kernfs_show` with false) while nobody has a reference, so it
-    /// is hidden at once. Returns the token, without which it cannot be shown again.
+    /// Hides a linked file with a new hold of it (`kernfs_show` with false). Since nobody has a reference, it
+    /// is hidden at once. Returns the token, without which the file cannot be shown again.
     ///
-    /// Refused are `TooManyHolds`, then what `State::may_hide` refuses, and `NoMemory`. After a refusal the
-    /// hold is given back.
+    /// Refused with `TooManyHolds`, then with what `State::may_hide` refuses, and with `NoMemory`. After a
+    /// refusal the hold is released.
     pub fn hide(&mut self, key: Key) -> Result<BoardToken, Refusal>
         requires linked { is_linked self.old.log.tree key ≡ true }
         requires idle { AllIdle self.old.callers }
@@ -46,7 +46,7 @@ impl Nodes {
             ⊎ (refusal ≡ NoMemory))
             × ((spent : List Key) × (self.new ≡ with_spent self.old spent))) }
     {
-        let _has_room = self.world.room(key); // tells what holds of every world
+        let _has_room = self.world.room(key); // its contract says what holds of every world
         let id = self.world.pin(key)?;
         if let Err(refusal) = self.state.may_hide(key) {
             self.world.release(id);
@@ -80,7 +80,7 @@ impl Nodes {
         self.hide(key)
     }
 
-    /// Shows the linked file of a token again (`kernfs_show` with true), and gives its hold back.
+    /// Shows the linked file of a token again (`kernfs_show` with true), and releases the token's hold.
     pub fn show(&mut self, token: BoardToken)
         requires hides { slice_get self.old.callers token.hold ≡ Some (hidden_on token.key) }
         requires linked { is_linked self.old.log.tree token.key ≡ true }
@@ -90,7 +90,7 @@ impl Nodes {
         } }
     {
         let BoardToken { key, hold } = token;
-        let _has_room = self.world.room(key); // tells what holds of every world
+        let _has_room = self.world.room(key); // its contract says what holds of every world
         self.world.show(hold);
         let _shown = self.state.show(key);
         self.world.release(hold);

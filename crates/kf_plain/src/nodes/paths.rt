@@ -41,8 +41,8 @@ impl Nodes {
         self.create(dir, name, node, is_live, next)
     }
 
-    /// Whether a new node can be linked at a path under the next key, lack of memory aside. It takes no
-    /// memory.
+    /// Whether a new node can be linked at a path under the next key, lack of memory aside. This allocates
+    /// nothing.
     pub fn may_create_at(&self, path: &[u8], node: Node, next: Option<Key>) -> Result<(), Refusal>
         ensures checked { MatchResult result (λ _. Leads (new_spot self.now.log path.now node next))
             (λ refusal. new_spot self.now.log path.now node next ≡ Err refusal) }
@@ -51,7 +51,7 @@ impl Nodes {
         self.state().may_create(dir, name, node, next)
     }
 
-    /// Links a new live link at a path to the node at another one, under the next key.
+    /// Makes a live link at a path to the node at another path, under the next key.
     pub fn link_at(&mut self, path: &[u8], target: &[u8], next: Option<Key>) -> Result<Key, Refusal>
         requires next { IsFreeKeyOf self.old.log.tree self.old.last (hold_count self.old.callers) next }
         ensures given { IfOk result (λ key. next ≡ Some key) }
@@ -79,7 +79,7 @@ impl Nodes {
         self.activate(key)
     }
 
-    /// Moves the node at a path into the directory at another, under a name.
+    /// Moves the node at a path into the directory at another path, under a name.
     pub fn move_at(&mut self, path: &[u8], dir: &[u8], name: &[u8]) -> Result<(), Refusal>
         ensures moved { IfOk result
             (λ _. (keys : Key × Key) × (moved_key self.old.log path.now dir.now name.now ≡ Ok keys)

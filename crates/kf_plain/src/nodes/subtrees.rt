@@ -46,7 +46,7 @@ fn rise_each(world: &mut World, keys: &[Key])
     }
 }
 
-/// Gives back the holds of this many callers, from this number to the last.
+/// Releases the holds of this many callers, from the number `first` to the last.
 fn release_from(world: &mut World, first: usize, count: usize)
     requires last { first + count ≡ length world.old.world.callers }
     requires fits { first + count ≤ 2 ^ 64 }
@@ -60,8 +60,8 @@ fn release_from(world: &mut World, first: usize, count: usize)
     }
 }
 
-/// A new hold of each of these linked nodes, in this order. Returns the number of the first caller.
-/// After a refusal the holds that were taken are given back.
+/// Takes a new hold of each of these linked nodes, in this order, and returns the number of the first new
+/// caller. After a refusal the holds that were taken are released.
 fn pin_each(world: &mut World, keys: &[Key]) -> Result<usize, Refusal>
     requires some { 0 < length keys.now }
     requires linked { All (λ key. IsTrue (has_node world.old.world key)) keys.now }
@@ -101,8 +101,8 @@ fn doom_each(world: &mut World, keys: &[Key])
     }
 }
 
-/// Takes out a doomed node without linked children. The caller of this number holds it, and nobody has a
-/// reference to it, so each step succeeds: the drain is over at once.
+/// Takes a doomed node without linked children out of the tree. The caller of this number holds the node, and
+/// nobody has a reference to it. So the drain is over at once, and each step succeeds.
 fn take_out(state: &mut State, world: &mut World, id: usize, key: Key)
     requires still { IsCaller world.old.world id key Still }
     requires unused { NoReference world.old.world key }
@@ -119,7 +119,8 @@ fn take_out(state: &mut State, world: &mut World, id: usize, key: Key)
     world.release(id);
 }
 
-/// Takes out these doomed nodes, each after its children. The callers from this number on hold one each.
+/// Takes these doomed nodes out of the tree, each after its children. Each caller from the number `first` on
+/// holds one of them.
 fn take_out_each(state: &mut State, world: &mut World, first: usize, keys: &[Key])
     requires kept { IsKept state.old }
     requires not_ready { state.old.ready ≡ None }
@@ -145,7 +146,7 @@ fn take_out_each(state: &mut State, world: &mut World, first: usize, keys: &[Key
 }
 
 impl Nodes {
-    /// Activates each node of the subtree that is not active yet (`kernfs_activate`).
+    /// Activates each node of the subtree that is neither activated nor doomed (`kernfs_activate`).
     /// Refused as `State::activate` is; after a refusal nothing is changed.
     pub fn activate(&mut self, key: Key) -> Result<(), Refusal>
         ensures no_cause { IfOk result (λ _. linked_cause self.old.log.tree key ≡ None) }
@@ -164,12 +165,12 @@ impl Nodes {
     }
 
     /// Removes a subtree while nobody has a reference (`kernfs_remove`): pins its nodes, dooms them, and
-    /// takes them out one by one, each after all that is below it. Then no caller holds one of them that did
-    /// not before.
+    /// takes them out one by one, each after all nodes below it. Afterwards no caller holds one of them that
+    /// did not hold it before.
     ///
-    /// Refused are `NoEntry` (not linked) and `Invalid` (the root), `TooManyHolds` if a node has as many
-    /// holds as there may be, and `NoMemory`. After a refusal the tree is as before, and the holds that were
-    /// taken are given back.
+    /// Refused with `NoEntry` (not linked), `Invalid` (the root), `TooManyHolds` if a node already has the
+    /// greatest number of holds, or `NoMemory`. After a refusal the tree is as before, and the holds that
+    /// were taken are released.
     pub fn remove(&mut self, key: Key) -> Result<(), Refusal>
         requires idle { AllIdle self.old.callers }
         ensures no_cause { IfOk result (λ _. doom_cause self.old.log.tree self.old.log.root key ≡ None) }

@@ -1,4 +1,4 @@
-//! Open files on the nodes, and visits to a node by the caller of one.
+//! Open files on the nodes, and visits to a node by the caller of an open file.
 
 ghost use Rattle.std.specs.Prelude.{◌≡◌, ◌⊎◌, ◌<◌, ◌≤◌, ◌++◌, ◌∷◌, [], ℕ, List, length, slice_set, slice_index, IfOk, IfErr, OnOk, IsSome, IsTrue, None, Some, Ok, true};
 ghost use Rattle.kf_core.specs.declared.key.Key.{Key};
@@ -28,7 +28,7 @@ pub struct BoardFile {
     pub file: HeldFile<World, Box<Page>>,
 }
 
-/// A page of a file that was closed, or else a new one. `NoMemory` if that could not be had.
+/// The page of a closed file, or a new one if there is none. `NoMemory` if there is no memory for a new one.
 fn take_page(pages: &mut Vec<Box<Page>>) -> Result<Box<Page>, Refusal>
     ensures refused { IfErr result (λ refusal. refusal ≡ NoMemory) }
 {
@@ -39,10 +39,10 @@ fn take_page(pages: &mut Vec<Box<Page>>) -> Result<Box<Page>, Refusal>
 }
 
 impl Nodes {
-    /// Opens a file by a new hold on its node, a linked one of this kind.
+    /// Opens a file with a new hold of its node, which is linked and of this kind.
     ///
-    /// Refused are `TooManyHolds`, then what [`HeldFile::open`] refuses, and `NoMemory`. After a refusal the
-    /// hold is given back.
+    /// Refused with `TooManyHolds`, then with what [`HeldFile::open`] refuses. `NoMemory` may come before any
+    /// of these, since a page is taken first. After a refusal the hold is released.
     pub fn open(&mut self, key: Key, node: Node, want: Want) -> Result<BoardFile, Refusal>
         requires linked { is_linked self.old.log.tree key ≡ true }
         ensures room { IfOk result (λ _. hold_count self.old.callers key.slot < self.old.limit) }
@@ -77,7 +77,7 @@ impl Nodes {
         }
     }
 
-    /// Sees to the text of a read, as [`HeldFile::prepare`] does.
+    /// Prepares the text of a read, as [`HeldFile::prepare`] does.
     pub fn read(
         &mut self,
         file: &mut BoardFile,
@@ -140,7 +140,7 @@ impl Nodes {
         file.file.poll(&mut self.world, &mut numbers)
     }
 
-    /// Closes a file, and gives its hold back. Its page is kept for the next file.
+    /// Closes a file, and releases its hold. Its page is kept for the next file.
     pub fn close(&mut self, file: BoardFile)
         requires waits { Waits self.old.callers file.file.hold file.key }
         ensures spent { self.new
@@ -152,7 +152,7 @@ impl Nodes {
         let BoardFile { key, file } = file;
         let (id, page) = file.close();
         self.release(id, key);
-        // If it cannot be kept it is dropped.
+        // If the page cannot be kept, it is dropped.
         let _ = self.pages.push(page);
     }
 }

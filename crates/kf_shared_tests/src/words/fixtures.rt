@@ -1,16 +1,16 @@
-//! What the tests of the words build on: each helper stops the test if its call does not return as asked.
+//! What the tests of the words build on. Each helper stops the test if its call does not return what it must.
 
 use kf_core::{Key, Limits, Node, NodeFlags};
 use kf_words::{Call, Hiding, Hold, Master, Words, try_drained};
 use std::alloc::Global;
 use std::process::Abort;
 
-/// The Master of two slots, each with place for 16 holds.
+/// Makes the Master of two slots, each with room for 16 holds.
 pub(crate) fn made<R: Abort>(rt: &R, alloc: Global) -> Master {
     made_for(rt, alloc, 16)
 }
 
-/// The Master of two slots, each with place for this many holds.
+/// Makes the Master of two slots, each with room for this many holds.
 pub(crate) fn made_for<R: Abort>(rt: &R, alloc: Global, holds: u32) -> Master {
     let Some(limits) = Limits::new(2, holds) else {
         panic!(rt; "no such limits")
@@ -21,7 +21,7 @@ pub(crate) fn made_for<R: Abort>(rt: &R, alloc: Global, holds: u32) -> Master {
     }
 }
 
-/// The next free key, with a node born there.
+/// Makes a node with the next free key, and returns this key.
 pub(crate) fn born<R: Abort>(rt: &R, master: &mut Master) -> Key {
     match master.free_key() {
         Some(key) => {
@@ -90,7 +90,7 @@ pub(crate) fn hide<R: Abort>(rt: &R, hold: Hold) -> Hiding {
     }
 }
 
-/// The hold sees that the node is drained, and is released.
+/// Checks that the hold sees the node drained, and releases the hold.
 pub(crate) fn see_drained<R: Abort>(rt: &R, hold: Hold) {
     match hold.look() {
         Ok(drained) => drained.release(),
@@ -101,7 +101,7 @@ pub(crate) fn see_drained<R: Abort>(rt: &R, hold: Hold) {
     }
 }
 
-/// The hold sees that the node is still in use.
+/// Checks that the hold sees the node still in use.
 pub(crate) fn see_used<R: Abort>(rt: &R, hold: Hold) -> Hold {
     match try_drained(hold) {
         Ok(drained) => {
@@ -112,7 +112,7 @@ pub(crate) fn see_used<R: Abort>(rt: &R, hold: Hold) -> Hold {
     }
 }
 
-/// One look sees that the node is drained, and the hold is released.
+/// Checks that one look sees the node drained, and releases the hold.
 pub(crate) fn see_drained_at_once<R: Abort>(rt: &R, hold: Hold) {
     match try_drained(hold) {
         Ok(drained) => drained.release(),
@@ -123,7 +123,7 @@ pub(crate) fn see_drained_at_once<R: Abort>(rt: &R, hold: Hold) {
     }
 }
 
-/// The words of a node have this many holds and users.
+/// Checks that the words of a node have this many holds and users.
 pub(crate) fn counted<R: Abort>(rt: &R, master: &mut Master, key: Key, holds: u32, users: u32) {
     match master.counts(key) {
         Some(counts) => {

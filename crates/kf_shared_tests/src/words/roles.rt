@@ -1,5 +1,5 @@
-//! What each thread of a test does, and what the threads count. Each wait of a test ends, so that a lost wake
-//! makes it fail.
+//! What each thread of a test does, and what the threads count. Each wait of a test ends, so a lost wake
+//! makes the test fail.
 
 use crate::words::fixtures::{doom, see_drained};
 use kf_core::{Key, Phase};
@@ -13,21 +13,21 @@ use std::time::{Clock, CpuClock, Duration};
 /// What the threads of a test count.
 #[derive(Drop)]
 pub(crate) struct Counts {
-    /// Those who begin to wait.
+    /// Threads that begin to wait.
     pub(crate) begun: AtomicU64,
-    /// Those who waited and are through.
+    /// Threads that waited and are through.
     pub(crate) through: AtomicU64,
     /// Tries, also those that were refused.
     pub(crate) tries: AtomicU64,
-    /// Calls of those who try.
+    /// Calls of the threads that try.
     pub(crate) calls: AtomicU64,
-    /// Such calls between their enter and their leave.
+    /// Those of these calls that are between their enter and their leave.
     pub(crate) running: AtomicU64,
-    /// Tokens of those who hide and show.
+    /// Tokens of the threads that hide and show.
     pub(crate) tokens: AtomicU64,
     /// Looks that found a call running while a token was out.
     pub(crate) wrong: AtomicU64,
-    /// Those who hid and showed, and the one who ends, once they are done.
+    /// Threads that hid and showed, and the one that ends the test, once they are done.
     pub(crate) done: AtomicU64,
 }
 
@@ -39,38 +39,38 @@ pub(crate) enum Mark {
     AfterTheCall,
 }
 
-/// Who is there beside the one that ends all, and what that one does.
+/// Which threads there are beside the one that ends the test, and what that one does.
 #[derive(Clone, Copy)]
 pub(crate) struct Course {
-    /// Those who wait for the drain.
+    /// How many threads wait for the drain.
     pub(crate) drain: u64,
-    /// Those who wait until nobody uses the key that they hide: one at most.
+    /// How many threads wait until nobody uses the key that they hide: one at most.
     pub(crate) hide: u64,
-    /// Those who try until the end.
+    /// How many threads try until the end.
     pub(crate) try_on: u64,
-    /// Those who hide and show, some times each.
+    /// How many threads hide and show, some times each.
     pub(crate) hide_on: u64,
-    /// Whether a call runs, which is ended.
+    /// Whether a call runs, which is then ended.
     pub(crate) call: bool,
-    /// Whether the call breaks its protection, and all come through before it ends.
+    /// Whether the call breaks its protection, so that all waiting threads come through before it ends.
     pub(crate) breaks: bool,
     pub(crate) mark: Mark,
-    /// Tries that are made before the call ends. Three times as many are made after.
+    /// How many tries are made before the call ends. Three times as many are made after that.
     pub(crate) tries: u64,
-    /// Whether the processor time of those who wait is measured.
+    /// Whether the CPU time of the waiting threads is measured.
     pub(crate) measured: bool,
 }
 
-/// What the one has who ends the call, marks the node, and looks whether all come through.
+/// What the thread has that ends the call, marks the node, and checks that all waiting threads come through.
 pub(crate) struct Ending {
     pub(crate) master: Master,
     pub(crate) key: Key,
     pub(crate) call: Option<Call>,
     pub(crate) other: Hold,
     pub(crate) course: Course,
-    /// Looks between the moment when somebody begins to wait and the mark.
+    /// How many looks come between the moment when a thread begins to wait and the mark.
     pub(crate) looks: u64,
-    /// Whether all was as it had to be.
+    /// Whether everything was as it must be.
     pub(crate) good: bool,
 }
 
@@ -85,10 +85,10 @@ pub(crate) enum Role {
     End(Ending),
 }
 
-/// Tokens of all who hide and show.
+/// How many tokens all the threads that hide and show have together.
 pub(crate) const TOKENS: u64 = 20;
 
-/// Whether a counter comes so far, for which it waits some seconds at most.
+/// Whether a counter reaches this count, for which it waits half a minute at most.
 fn comes<R: Clock>(rt: &R, count: u64, counter: &AtomicU64) -> bool {
     for turn in 0..35_000u32 {
         if counter.load(Ordering::SeqCst) >= count {
@@ -101,16 +101,16 @@ fn comes<R: Clock>(rt: &R, count: u64, counter: &AtomicU64) -> bool {
     false
 }
 
-/// Looks at a counter so often, which takes a moment.
+/// Looks at a counter this many times, which takes a moment.
 fn linger(looks: u64, counter: &AtomicU64) {
     for _ in 0..looks {
         let _ = counter.load(Ordering::SeqCst);
     }
 }
 
-// ---- those who try, and those who hide and show
+// ---- threads that try, and threads that hide and show
 
-/// One try, and the end of the call if there is one.
+/// Makes one try, and ends the call if the try succeeds.
 fn in_and_out(hold: Hold, counts: &Counts) -> Hold {
     counts.tries.fetch_add(1, Ordering::SeqCst);
     match hold.enter() {
@@ -124,7 +124,7 @@ fn in_and_out(hold: Hold, counts: &Counts) -> Hold {
     }
 }
 
-/// Tries until this many are done.
+/// Tries until this many threads are done.
 fn try_on(until: u64, first: Hold, counts: &Counts) -> Hold {
     let mut hold = first;
     for _ in 0..1_000_000_000u64 {
@@ -146,7 +146,7 @@ fn look_while_hidden(counts: &Counts) {
     }
 }
 
-/// Hides and shows once, if no other hides. Before it does a call comes through.
+/// Hides and shows once, if no other thread hides. First it waits until a call has come through.
 fn hide_and_show<R: Wait + Clock>(rt: &R, hold: Hold, counts: &Counts) -> Hold {
     let calls = counts.calls.load(Ordering::SeqCst);
     comes(rt, calls.saturating_add(1), &counts.calls);
@@ -160,7 +160,7 @@ fn hide_and_show<R: Wait + Clock>(rt: &R, hold: Hold, counts: &Counts) -> Hold {
     }
 }
 
-/// Hides and shows, until all tokens were out.
+/// Hides and shows until all tokens have been out.
 fn hide_on<R: Wait + Clock>(rt: &R, first: Hold, counts: &Counts) -> Hold {
     let mut hold = first;
     for _ in 0..1_000_000u64 {
@@ -173,9 +173,9 @@ fn hide_on<R: Wait + Clock>(rt: &R, first: Hold, counts: &Counts) -> Hold {
     hold
 }
 
-// ---- the one who ends all
+// ---- the thread that ends the test
 
-/// Whether those who wait use no processor: some hundredths of half a second at most.
+/// Whether the waiting threads use no CPU: the process uses less than 100 ms of CPU time in half a second.
 fn they_sleep<R: Clock + CpuClock>(rt: &R) -> bool {
     thread::sleep(rt, Duration::from_millis(50));
     let Ok(before) = rt.process_cpu_time() else {
@@ -204,8 +204,8 @@ pub(crate) fn leave(mut call: Call) -> Hold {
     }
 }
 
-/// Ends the call. If `breaks` is set it breaks its protection first, and returns whether this many came
-/// through before it ends.
+/// Ends the call. If `breaks` is set and the call is Running, it breaks its protection first. Returns false
+/// if this many threads did not come through between that and the end of the call.
 pub(crate) fn end_call<R: Clock>(
     rt: &R,
     mut call: Call,
@@ -233,7 +233,8 @@ pub(crate) fn end_call<R: Clock>(
     enough
 }
 
-/// If not this many came through: frees them by refused tries, each of which wakes all as it is undone.
+/// If fewer threads than this came through, frees the rest by refused tries, each of which wakes all when it
+/// is undone.
 fn free_the_rest(first: Hold, count: u64, through: &AtomicU64) -> Hold {
     let mut hold = first;
     for _ in 0..1_000_000u32 {
@@ -248,7 +249,8 @@ fn free_the_rest(first: Hold, count: u64, through: &AtomicU64) -> Hold {
     hold
 }
 
-/// Waits until all is there, and says whether those who wait for the call do not come through meanwhile.
+/// Waits until all threads are there, and returns whether those that wait for the call do not come through
+/// meanwhile.
 fn before_the_end<R: Clock + CpuClock>(
     rt: &R,
     course: Course,
@@ -266,8 +268,8 @@ fn before_the_end<R: Clock + CpuClock>(
     asleep && comes(rt, course.tries, &counts.tries) && counts.through.load(Ordering::SeqCst) == 0
 }
 
-/// Ends the call, and marks the node. Each who waits has to come through: who hides by the end of the call,
-/// and who waits for the drain once the node is marked as well.
+/// Ends the call, and marks the node. Each waiting thread must come through: one that hides, once the call
+/// has ended; and one that waits for the drain, once the node is marked as well.
 fn end_all<R: Abort + Clock + CpuClock>(rt: &R, ending: Ending, counts: &Counts) -> Ending {
     let Ending {
         mut master,
@@ -305,9 +307,9 @@ fn end_all<R: Abort + Clock + CpuClock>(rt: &R, ending: Ending, counts: &Counts)
     }
 }
 
-// ---- all of them
+// ---- all of the threads
 
-/// What one thread does, and what it has then.
+/// Plays a role, and returns what the thread has after that.
 fn act<R: Abort + Wait + Clock + CpuClock>(rt: &R, role: Role, counts: &Counts) -> Role {
     match role {
         Role::Drain(hold) => {
@@ -328,12 +330,12 @@ fn act<R: Abort + Wait + Clock + CpuClock>(rt: &R, role: Role, counts: &Counts) 
     }
 }
 
-/// What a thread has when all are through, is given back. Each hold sees that the node is drained.
+/// Releases what a thread has when all are through. Each hold sees that the node is drained.
 pub(crate) fn give_back<R: Abort + Wait + Clock>(rt: &R, role: Role) {
     match role {
         Role::Drain(hold) | Role::TryOn(_, hold) | Role::HideOn(hold) => see_drained(rt, hold),
         Role::Drained(mut drained) => {
-            drained.rest(rt); // nobody is there, so it ends by itself
+            drained.rest(rt); // nobody uses the node, so it ends by itself
             drained.release();
         }
         Role::Hide(hiding) => wait_hidden(rt, hiding).show().release(),
@@ -359,7 +361,7 @@ fn ended<R: Abort + Clock>(rt: &R, ending: Ending) {
     assert!(rt; good, "all come through when they have to");
 }
 
-/// The role in its place, acted.
+/// Takes the role from its place, plays it, and puts back what the thread has then.
 pub(crate) fn act_in<R: Abort + Wait + Clock + CpuClock>(
     rt: &R,
     place: &mut Option<Role>,

@@ -1,4 +1,4 @@
-//! Those who wait for a drain, or until nobody uses a hidden key, among calls, tries and hiders in threads.
+//! Threads that wait for a drain, or until nobody uses a hidden key, among threads that call, try and hide.
 
 use crate::words::fixtures::{
     activate, born, counted, doom, enter, hide, made, made_for, pin, see_drained_at_once, see_used,
@@ -15,7 +15,7 @@ use std::sync::atomic::{AtomicU64, Ordering};
 use std::thread::{Threads, for_each_mut};
 use std::time::{Clock, CpuClock};
 
-/// Four wait for a drain, and the last call's step wakes all of them.
+/// Four threads wait for a drain, and the last step of the call wakes all of them.
 const MARKED: Course = Course {
     drain: 4,
     hide: 0,
@@ -28,8 +28,8 @@ const MARKED: Course = Course {
     measured: false,
 };
 
-/// Two wait for a drain and one hides, all on one word. The call's end wakes the one who hides; the others
-/// come through once the node is marked.
+/// Two threads wait for a drain and one hides, all on one word. The end of the call wakes the one that hides.
+/// The others come through once the node is marked.
 const HIDDEN: Course = Course {
     drain: 2,
     hide: 1,
@@ -64,8 +64,8 @@ const WOKEN: [Course; 7] = [
     },
 ];
 
-/// One waits for a drain, and the call is left among refused tries. If a try is not yet undone when the call
-/// is left, the undo wakes the one, or nobody does.
+/// One thread waits for a drain, and the call ends among refused tries. If a try is not yet undone when the
+/// call ends, its undo must wake the thread, since nothing else does.
 const AMONG_TRIES: Course = Course {
     drain: 1,
     try_on: 1,
@@ -73,8 +73,8 @@ const AMONG_TRIES: Course = Course {
     ..MARKED
 };
 
-/// One begins to wait if nobody is, and may fall asleep just as the node is marked. The mark wakes nobody:
-/// so the sleep ends by itself.
+/// One thread begins to wait for a node that nobody uses, and may fall asleep just as the node is marked. The
+/// mark wakes nobody, so the sleep ends by itself.
 const NAP: Course = Course {
     drain: 1,
     call: false,
@@ -82,7 +82,7 @@ const NAP: Course = Course {
     ..MARKED
 };
 
-/// Eight go in and out among two who hide, and all see the drain.
+/// Eight threads go in and out beside two that hide, and all see the drain.
 const CROWD: Course = Course {
     drain: 0,
     try_on: 8,
@@ -114,7 +114,7 @@ fn add<R: Abort + Wait + Clock>(rt: &R, roles: &mut Vec<Option<Role>>, role: Rol
     }
 }
 
-/// All who are there beside the one who ends all.
+/// The roles of all threads except the one that ends the test.
 fn gathered<R: Abort + Wait + Clock>(
     rt: &R,
     alloc: Global,
@@ -139,7 +139,7 @@ fn gathered<R: Abort + Wait + Clock>(
     roles
 }
 
-/// All act at once.
+/// Plays all roles at once.
 fn all_act<R: Abort + Threads + Wait + Clock + CpuClock + Sync>(
     rt: &R,
     roles: &mut Vec<Option<Role>>,
@@ -162,7 +162,7 @@ fn give_all_back<R: Abort + Wait + Clock>(rt: &R, mut roles: Vec<Option<Role>>) 
     roles.destroy_empty();
 }
 
-/// One course on a live node. It returns what was counted.
+/// Runs one course on a live node. Returns what was counted.
 fn run<R: Abort + Threads + Wait + Clock + CpuClock + Sync>(
     rt: &R,
     alloc: Global,

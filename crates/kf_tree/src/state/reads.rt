@@ -1,5 +1,5 @@
-//! What a state says: its commands, paths, listings, and what is reported of a node. No call changes
-//! anything.
+//! What a state says: its commands, paths and listings, and what is reported of a node. None of these
+//! functions changes anything.
 
 ghost use Rattle.std.specs.Prelude.{◌≡◌, ◌↔◌, IfOk, IfErr, IsTrue, slice_get, MatchResult, None, Some, Ok, Err, true, false, not, length, IfSome, List, ◌+◌};
 ghost use Rattle.std.specs.Option.{option_copied, option_map, ok_or};
@@ -33,8 +33,8 @@ use kf_core::{Command, Key, Node, Record, Refusal};
 use kf_index::Name;
 
 impl State {
-    /// The root's key. What holds of every state is said here: its tree is lawful, and the replay of its
-    /// commands.
+    /// The root's key. The clause `kept` says what holds of every state: its tree is lawful, and is the
+    /// replay of its commands.
     pub fn root(&self) -> Key
         ensures known { result ≡ self.now.root }
         ensures kept { IsKept self.now }
@@ -42,8 +42,8 @@ impl State {
         self.root
     }
 
-    /// The canonical list of the tree at the last [`State::compact`], if there was one, and every command
-    /// accepted since, in the order in which they were accepted.
+    /// The stored commands, in the order in which they were accepted. If there was a [`State::compact`], the
+    /// canonical list that the last one made comes first, and then every command accepted since.
     pub fn commands(&self) -> &[Command]
         ensures listed { result.now ≡ self.now.commands }
         ensures kept { IsKept self.now }
@@ -58,9 +58,10 @@ impl State {
         self.commands.len()
     }
 
-    /// How many commands would be stored after [`State::compact`], at most: one for each linked node but the
-    /// root, one for each doomed node, and one for each hidden one. There are fewer by just the nodes that
-    /// are doomed in a doomed directory, since the doom of the top stands for them. It takes constant time.
+    /// The most commands that would be stored after [`State::compact`]: one for each linked node except the
+    /// root, one for each doomed node, and one for each hidden node. The exact number is lower by the number
+    /// of nodes that are doomed in a doomed directory, since the doom of the top covers them. This takes
+    /// constant time.
     pub fn compacted(&self) -> usize
         ensures known { result + 1 ≡ linked_count self.now.tree + owed_count self.now.tree }
         ensures canonical { (commands : List Command) → IsCanonical self.now.tree commands →
@@ -70,7 +71,7 @@ impl State {
         records - 1 + self.owed
     }
 
-    /// Whether there is such a slot, without a record: what [`State::create`] asks of the slot of the next
+    /// Whether the slot exists and has no record. [`State::create`] requires this of the slot of the next
     /// key.
     pub fn is_vacant(&self, slot: u32) -> bool
         ensures known { IsTrue result ↔ (slice_get self.now.tree slot ≡ Some None) }
@@ -78,7 +79,7 @@ impl State {
         self.table.is_vacant(slot)
     }
 
-    /// The number of slots: each linked node has one below it.
+    /// The number of slots. The slot of each linked node is below this number.
     pub fn slots(&self) -> u32
         ensures known { result ≡ length self.now.tree }
     {
@@ -96,15 +97,16 @@ impl State {
         }
     }
 
-    /// Whether following parents from the key meets the top, as a key itself does. It takes no memory, and
-    /// one step for each directory on the way up.
+    /// Whether the way up from the key, parent by parent, meets `top`. It does if the key is `top` itself.
+    /// This allocates nothing, and takes one step for each directory on the way up.
     pub fn is_below(&self, top: Key, key: Key) -> bool
         ensures known { result ≡ in_subtree self.now.tree top key }
     {
         self.table.is_below(top, key)
     }
 
-    /// Why [`State::create`] would refuse this new record now, lack of memory aside. It takes no memory.
+    /// Whether [`State::create`] would accept this new record now, or why it would refuse it, lack of memory
+    /// aside. This allocates nothing.
     pub fn may_create(
         &self,
         parent: Key,
@@ -120,17 +122,18 @@ impl State {
         Ok(())
     }
 
-    /// Why [`State::create`] would refuse this new record now whichever key is next, or None: the first of
-    /// its refusals but `NoSpace` and `NoMemory`. So a caller asks it before it searches for a key, and then
-    /// makes the record by [`State::create_under`]. It takes no memory.
+    /// Why [`State::create`] would refuse this new record now, whichever key is next: the first of its
+    /// refusals except `NoSpace` and `NoMemory`, or None. A caller can ask this before it searches for a key,
+    /// and then make the record with [`State::create_under`]. This allocates nothing.
     pub fn create_fault(&self, parent: Key, name: &[u8], node: Node) -> Option<Refusal>
         ensures first { result ≡ create_fault self.now.tree self.now.root parent name.now node }
     {
         create_fault(&self.table, self.root, parent, name, &node)
     }
 
-    /// Why [`State::doom`] would refuse this key now, lack of memory aside: `NoEntry` (not linked), then
-    /// `Invalid` (the root). It takes no memory. What holds of every state is said here too.
+    /// Whether [`State::doom`] would accept this key now, or why it would refuse it, lack of memory aside:
+    /// `NoEntry` (it is not linked), then `Invalid` (it is the root). This allocates nothing. The clause
+    /// `kept` says what holds of every state.
     pub fn may_doom(&self, key: Key) -> Result<(), Refusal>
         ensures checked { MatchResult result
             (λ _. doom_cause self.now.tree self.now.root key ≡ None)
@@ -140,8 +143,8 @@ impl State {
         check_doom(&self.table, self.root, key)
     }
 
-    /// Whether [`State::rename`] would move the node now, or why it would refuse, lack of memory aside. It is
-    /// false if the node is in that directory under that name already. It takes no memory.
+    /// Whether [`State::rename`] would move the node now, or why it would refuse, lack of memory aside.
+    /// Returns false if the node is in that directory under that name already. This allocates nothing.
     pub fn may_rename(&self, key: Key, dir: Key, name: &[u8]) -> Result<bool, Refusal>
         ensures checked { MatchResult result
             (λ moves. (rename_cause self.now.tree self.now.root key dir name.now ≡ None)
@@ -161,7 +164,7 @@ impl State {
         check_unlink(&self.table, key)
     }
 
-    /// The keys of a linked node's subtree: each after all that is below it, siblings in byte order of names,
+    /// The keys of a linked node's subtree: each after all keys below it, siblings in byte order of names,
     /// the given key last. Refusals in order: `NoEntry` (not linked), `NoMemory`.
     pub fn post_order(&self, key: Key) -> Result<Vec<Key>, Refusal>
         ensures linked { IfOk result (λ _. linked_cause self.now.tree key ≡ None) }
@@ -181,15 +184,16 @@ impl State {
         find_in(&self.table, dir, name, false)
     }
 
-    /// The node that a path names, live or not; links are not followed (`kernfs_walk_ns`). `Invalid` where
-    /// the path has no leading slash or an empty component, else the first refusal of the finds along it.
+    /// The node that a path names, live or not; links are not followed (`kernfs_walk_ns`). `Invalid` if the
+    /// path has no leading slash or has an empty component, otherwise the first refusal of the finds along
+    /// the path.
     pub fn walk(&self, path: &[u8]) -> Result<Key, Refusal>
         ensures walked { result ≡ walked self.now.tree self.now.root path.now }
     {
         walk(&self.table, self.root, path, false)
     }
 
-    /// The live node that a path names: every node that is not live counts as not there.
+    /// The live node that a path names. Every node that is not live counts as missing.
     /// Refused as [`State::walk`] is.
     pub fn lookup(&self, path: &[u8]) -> Result<Key, Refusal>
         ensures seen { result ≡ seen self.now.tree self.now.root path.now }
@@ -197,8 +201,9 @@ impl State {
         walk(&self.table, self.root, path, true)
     }
 
-    /// The node of all components of a path but the last, and the last, which may be empty.
-    /// Refused as [`State::walk`] of those before the last; the path `/` is `Invalid`.
+    /// The node that all components of a path except the last lead to, and the last component, which may be
+    /// empty.
+    /// Refused as [`State::walk`] of the components before the last; the path `/` is `Invalid`.
     pub fn walk_parent<'a>(&self, path: &'a [u8]) -> Result<(Key, &'a [u8]), Refusal>
         ensures walked { MatchResult result
             (λ found. walked_parent self.now.tree self.now.root path.now ≡ Ok (found.0, found.1.now))
@@ -220,8 +225,8 @@ impl State {
         copy_names(self.alloc, names)
     }
 
-    /// The names that [`State::list`] copies, as they stand in the tree: it takes no memory. Refused as that
-    /// is, except for `NoMemory`.
+    /// The names that [`State::list`] copies, in place in the tree. This allocates nothing. Refused as
+    /// [`State::list`] is, except for `NoMemory`.
     pub fn names(&self, dir: Key, after: Option<&[u8]>, limit: usize) -> Result<Names<'_>, Refusal>
         ensures no_cause { IfOk result (λ _. list_cause self.now.tree dir ≡ None) }
         ensures listed { IfOk result (λ names.
@@ -232,7 +237,7 @@ impl State {
         Ok(Names::new(&self.table, dir, after, limit))
     }
 
-    /// The record of a linked node, as it stands in the tree.
+    /// The record of a linked node, in place in the tree, or None if the node is not linked.
     #[inline]
     pub fn record(&self, key: Key) -> Option<&Record>
         ensures known { option_copied result ≡ record_at self.now.tree key }
@@ -252,8 +257,8 @@ impl State {
         }
     }
 
-    /// The directory of a linked node, and None for the root (`kernfs_get_parent`). `NoEntry` if it is not
-    /// linked.
+    /// The directory of a linked node, or None for the root (`kernfs_get_parent`). `NoEntry` if the node
+    /// is not linked.
     pub fn parent_of(&self, key: Key) -> Result<Option<Key>, Refusal>
         ensures told { result ≡
             ok_or (option_map (λ r. r.parent) (record_at self.now.tree key)) Refusal.NoEntry }
@@ -288,9 +293,11 @@ impl State {
         path_of(self.alloc, &self.table, self.root, key)
     }
 
-    /// The text of a link: `../` from its directory up to the first one that is the root or above the target,
-    /// then the names down to the target, joined by slashes (`kernfs_get_target_path`). Refusals in order:
-    /// `NoEntry` (not linked), `Invalid` (no link), `NoEntry` (the target is not linked), `NoMemory`.
+    /// The text of a link (`kernfs_get_target_path`). It is `../` for each step from the link's directory up
+    /// to the first directory that is the root or above the target, then the names down to the target, joined
+    /// by slashes.
+    /// Refusals in order: `NoEntry` (not linked), `Invalid` (not a link), `NoEntry` (the target is not
+    /// linked), `NoMemory`.
     pub fn target_text(&self, key: Key) -> Result<Vec<u8>, Refusal>
         ensures no_cause { IfOk result (λ _. text_cause self.now.tree key ≡ None) }
         ensures text { IfOk result (λ text. HasLinkText self.now.tree self.now.root key text.items) }

@@ -1,4 +1,4 @@
-//! A tour of a subtree: from node to node in post-order, without memory.
+//! A tour of a subtree: from node to node in post-order, without allocating.
 
 ghost use Rattle.std.specs.Prelude.{◌≡◌, ◌≢◌, ◌<◌, ◌++◌, ◌∷◌, [], List, length, false, IfSome, IfNone};
 ghost use Rattle.kf_core.specs.declared.key.Key.{Key};
@@ -13,8 +13,8 @@ use kf_core::Key;
 use kf_index::Listed;
 
 impl State {
-    /// A tour of a node's subtree, at its first node in post-order (`kernfs_leftmost_descendant`). None where
-    /// the node is not linked. It takes no memory.
+    /// A tour of a node's subtree, at its first node in post-order (`kernfs_leftmost_descendant`). None if
+    /// the node is not linked. This allocates nothing.
     pub fn tour(&self, top: Key) -> Option<Tour>
         ensures top { IfSome result (λ tour. tour.top ≡ top) }
         ensures first { IfSome result (λ tour. HasPassed self.now.tree tour []) }
@@ -29,10 +29,11 @@ impl State {
         })
     }
 
-    /// The tour at the node after the one that it is at (`kernfs_next_descendant_post`). None at the top,
-    /// where it ends: it has passed the whole subtree then. It takes no memory, and one search in an index.
+    /// The tour at the node after its current one (`kernfs_next_descendant_post`). None if the tour is at its
+    /// top: it has then passed the whole subtree, and ends. This allocates nothing, and takes one search in
+    /// an index.
     ///
-    /// Condition: it is a tour of the tree as that is now.
+    /// Condition: it is a tour of the tree as the tree is now.
     pub fn tour_on(&self, tour: Tour) -> Option<Tour>
         requires here { (keys : List Key) × HasPassed self.now.tree tour keys }
         ensures top { IfSome result (λ next. next.top ≡ tour.top) }

@@ -1,4 +1,4 @@
-//! An owner of the table of words, taken from a seat and given to the next.
+//! An owner of the table of words, which is taken from one seat and given to the next.
 ghost use Rattle.std.specs.Prelude.{◌≡◌, ◌<◌, None, [], IfOk};
 ghost use Rattle.kf_core.specs.declared.caller.Phase.TheVariants as phase_of;
 ghost use Rattle.kf_words.specs.Callers.{handle_of, view_of};
@@ -15,7 +15,7 @@ use std::alloc::AllocError;
 use std::sync::Arc;
 
 impl Owner {
-    /// The first seat of a new hold, which has this owner.
+    /// Makes the first seat of a new hold, with this owner.
     pub(crate) fn seat(self, key: Key, node: Node, token: Seat<(), Sight>) -> CallerSeat
         requires table { token.table_id ≡ owned_table self }
         requires caller { plain token.me ≡ (seat_of.Caller (caller_of token.me.0.view), []) }
@@ -31,7 +31,7 @@ impl Owner {
 }
 
 impl CallerSeat {
-    /// One owner more of its table.
+    /// Makes one more owner of the seat's table.
     pub(crate) fn owner(&self) -> Result<Owner, AllocError>
         ensures { IfOk result (λ owner. owned_table owner ≡ self.now.token.table_id) }
     {
@@ -41,8 +41,8 @@ impl CallerSeat {
         })
     }
 
-    /// The one way in which a seat ends, and only if its hold was given back: the view says Spent
-    /// only after the step of `release_seat`. Its owner is left.
+    /// Ends the seat and returns its owner. A seat ends in no other way, and only after its hold was
+    /// released: the view says Spent only after the step of `release_seat`.
     pub(crate) fn end_to_owner(self) -> Owner
         requires { (view_of self).phase ≡ phase_of.Spent }
         ensures { owned_table result ≡ self.token.table_id }

@@ -1,4 +1,4 @@
-//! A seat made, moved and ended, part by part, and its key and node.
+//! How a seat is made, moved and ended, field by field, and its key and node.
 ghost use Rattle.std.specs.Prelude.{◌≡◌, ◌*◌, ◌<◌, ◌≤◌, None, []};
 ghost use Rattle.std.specs.Arc.{arc_value};
 ghost use Rattle.kf_core.specs.declared.caller.Phase.TheVariants as phase_of;
@@ -15,7 +15,7 @@ use kf_core::{Key, Node};
 use std::sync::Arc;
 
 impl CallerSeat {
-    /// The first seat of a new hold.
+    /// Makes the first seat of a new hold.
     pub(crate) fn new(
         table: Arc<WordTable>,
         key: Key,
@@ -70,7 +70,8 @@ impl CallerSeat {
         }
     }
 
-    /// The same seat, moved field by field: so it stays in registers from one atomic step to the next.
+    /// Returns the same seat, moved field by field. So it stays in registers from one atomic step to the
+    /// next.
     pub(crate) fn moved(self) -> CallerSeat
         ensures same { result ≡ self }
     {
@@ -94,7 +95,7 @@ impl CallerSeat {
         }
     }
 
-    /// Ends the seat, as `end_to_owner`, and its owner goes.
+    /// Ends the seat like `end_to_owner`, and drops its owner.
     pub(crate) fn end(self)
         requires { (view_of self).phase ≡ phase_of.Spent }
     {
@@ -102,7 +103,8 @@ impl CallerSeat {
     }
 }
 
-/// The kind, tag and target of a node. A node without a tag gets 0, and one without a target gets the key.
+/// The kind, tag and target of a node. If it has no tag, the tag is 0. If it has no target, the target is the
+/// node's key.
 fn parts_of(node: Node, key: Key) -> (NodeKind, u64, Key)
     ensures { node_of result.0 result.1 result.2 ≡ node }
 {

@@ -1,6 +1,6 @@
-//! A hold of any key from a seat of the same table: one hold more is counted on the hold word of the key's
-//! slot, if that has the key's node linked and a spare place, and a new seat gets it. No lock is asked
-//! for.
+//! Makes a hold of any key, from a seat of the same table. If the key's node is linked in its slot, and the
+//! slot has a spare place, the slot's hold word counts one more hold, and a new seat gets it. No lock is
+//! taken.
 ghost use Rattle.std.specs.Prelude.{◌≡◌, ◌≢◌, ◌<◌, true, false, None, IfOk, IfErr, IfSome};
 ghost use Rattle.kf_words.specs.Layout.{IsOf, HasSpare};
 ghost use Rattle.kf_words.specs.Steps.{after_miss};
@@ -20,7 +20,7 @@ use crate::sight::Sight;
 use atomic_table::Seat;
 use kf_core::{Key, Node, Refusal};
 
-/// How often an exchange is tried where other holds come and go between.
+/// How often an exchange is attempted if other holds come and go in between.
 const TRIES: u32 = 64;
 
 /// Whether a node of this generation is linked in the slot of this hold word.
@@ -31,7 +31,8 @@ fn is_of(word: u64, generation: u32) -> bool
     has_linked(word) && word / GENERATION == generation as u64
 }
 
-/// Why no hold is made of a key of this generation if its slot's hold word is so.
+/// Why no hold of a key of this generation is made if its slot has this hold word. It is None if there is no
+/// reason.
 fn why_not(word: u64, generation: u32, most: u32) -> Option<Refusal>
     ensures refused { IfSome result (λ why. IsWhyNot generation most word why) }
     ensures linked { result ≡ None → IsOf generation word }
@@ -48,7 +49,7 @@ fn why_not(word: u64, generation: u32, most: u32) -> Option<Refusal>
 }
 
 impl CallerSeat {
-    /// Whether its table has the slot of a key.
+    /// Whether the seat's table has the slot of a key.
     pub(crate) fn has_slot_of(&self, key: Key) -> bool
         ensures there { result ≡ true → HasSlotOf (handle_of self.now) key }
         ensures beyond { result ≡ false → HasSlotOf (handle_of self.now) key → ⊥ }
@@ -56,8 +57,8 @@ impl CallerSeat {
         hold_index(key.slot) < self.table.word_count()
     }
 
-    /// The hold word of a key's slot as it is now, by a load that the rule does not see: what the first try
-    /// at a hold expects.
+    /// Loads the hold word of a key's slot as it is now, by a load that the rule does not see. The first
+    /// attempt at a hold expects this word.
     pub(crate) fn peek_holds_of(&self, key: Key) -> u64
         requires there { HasSlotOf (handle_of self.now) key }
     {
@@ -77,8 +78,8 @@ impl CallerSeat {
         self.table.shared.load::<LooksAt>(&mut self.token, word)
     }
 
-    /// Reads the hold word of a key's slot, of which no hold is made. The step names the most holds of a
-    /// slot: it is an exchange of that number by itself, which changes no word.
+    /// Loads the hold word of a key's slot when no hold is made. The step also names the greatest number of
+    /// holds of a slot: it is a compare-and-exchange of that number for itself, which changes no word.
     fn see_holds_of(&mut self, key: Key) -> u64
         requires rests { IsAtRest (view_of self.old) }
         requires there { HasSlotOf (handle_of self.old) key }
@@ -95,7 +96,7 @@ impl CallerSeat {
             .compare_exchange::<SeesHoldsAt>(&mut self.token, word, most, most)
     }
 
-    /// Loads a word of the node that a key's slot has.
+    /// Loads one of the words of the node that a key's slot has.
     fn read_node_of(&mut self, key: Key, place: usize) -> u64
         requires rests { IsAtRest (view_of self.old) }
         requires there { HasSlotOf (handle_of self.old) key }
@@ -109,8 +110,8 @@ impl CallerSeat {
         self.table.shared.load::<ReadsNode>(&mut self.token, word)
     }
 
-    /// Counts one hold more of a key if the hold word of its slot is as expected, and gives it a new seat.
-    /// Err is the word that was found instead.
+    /// Counts one more hold of a key if the hold word of its slot is as expected, and gives the hold a new
+    /// seat. An Err has the word that was found instead.
     fn exchange_for(&mut self, key: Key, expected: u64) -> Result<Seat<(), Sight>, u64>
         requires rests { IsAtRest (view_of self.old) }
         requires there { HasSlotOf (handle_of self.old) key }
@@ -137,8 +138,9 @@ impl CallerSeat {
         Ok(self.table.shared.split_seat::<HandsOn>(&mut self.token))
     }
 
-    /// One try at a hold of a key, if the hold word of its slot is as guessed. Err is the word that was
-    /// found instead, or why no hold is made if it is so.
+    /// Makes one attempt at a hold of a key. It succeeds if the guessed hold word allows one more hold, and
+    /// the hold word of the slot is as guessed. An Err has the word that was found instead, or the reason why
+    /// the word that was found allows no hold.
     fn try_pin(&mut self, key: Key, guess: u64) -> Result<Seat<(), Sight>, Result<u64, Refusal>>
         requires rests { IsAtRest (view_of self.old) }
         requires there { HasSlotOf (handle_of self.old) key }
@@ -167,8 +169,8 @@ impl CallerSeat {
         }
     }
 
-    /// Counts one hold more of a key, and gives it a new seat. The first try expects the word that was last
-    /// seen.
+    /// Counts one more hold of a key, and gives the hold a new seat. The first attempt expects the word
+    /// `first`, and each later one the word that was last found.
     ///
     /// Refusals, in order: NoEntry, TooManyHolds, Busy.
     fn count_pin(&mut self, key: Key, first: u64) -> Result<Seat<(), Sight>, Refusal>
@@ -197,8 +199,8 @@ impl CallerSeat {
         Err(Refusal::Busy)
     }
 
-    /// Why there is no hold of a key if the table can have no owner more: out of memory only if the node is
-    /// linked and its slot has a place.
+    /// Why no hold of a key is made if the table can have no further owner. It is NoMemory only if the node
+    /// is linked and its slot has a spare place.
     fn refuse_pin(&mut self, key: Key) -> Refusal
         requires rests { IsAtRest (view_of self.old) }
         requires there { HasSlotOf (handle_of self.old) key }
@@ -214,7 +216,7 @@ impl CallerSeat {
         }
     }
 
-    /// Reads the node of a key's slot, and then whether the key is linked there.
+    /// Reads the node in a key's slot, and then looks whether the key is linked there.
     fn read_node(&mut self, key: Key) -> (Node, bool)
         requires rests { IsAtRest (view_of self.old) }
         requires there { HasSlotOf (handle_of self.old) key }
@@ -231,7 +233,7 @@ impl CallerSeat {
         (node_of(kind, first, second), is_of(found, key.generation))
     }
 
-    /// The new seat of a key gives its hold back, in one word step. It is left with nothing.
+    /// Releases the hold of a key's new seat, in one word step. That seat is left with nothing.
     fn give_back(&self, key: Key, token: Seat<(), Sight>) -> Seat<(), Sight>
         requires pin { IsPin (handle_of self.now) key token }
         requires there { HasSlotOf (handle_of self.now) key }
@@ -243,9 +245,10 @@ impl CallerSeat {
         spent
     }
 
-    /// Counts one hold more of a linked key, and gives it a new seat, with the node that was born there. The
-    /// first try expects this word. The node is read once the hold is counted: its words are in the cache
-    /// line that the exchange has just got for writing, and a read before it would fetch that line twice.
+    /// Counts one more hold of a linked key, and gives the hold a new seat, with the node that was born with
+    /// the key. The first attempt expects the word `first`. The node is read after the hold is counted: its
+    /// words are in the cache line that the exchange has just fetched for writing, and an earlier read would
+    /// fetch that line twice.
     ///
     /// Refusals, in order: NoEntry, TooManyHolds, Busy.
     pub(crate) fn pin_token(
@@ -274,7 +277,8 @@ impl CallerSeat {
         Err(Refusal::NoEntry)
     }
 
-    /// A seat of a linked key of the same table, which holds its slot, with the node that was born there.
+    /// Makes a seat of a linked key of the same table, which holds the key's slot, with the node that was
+    /// born with the key.
     pub(crate) fn pin(&mut self, key: Key) -> Result<CallerSeat, Refusal>
         requires rests { IsAtRest (view_of self.old) }
         requires there { HasSlotOf (handle_of self.old) key }

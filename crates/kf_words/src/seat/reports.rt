@@ -1,4 +1,4 @@
-//! What a seat has seen, passed to the Master and back from it, with nothing changed in any word.
+//! A seat passes to the Master what it has seen, and gets back what the Master has seen. No word changes.
 ghost use Rattle.std.specs.Prelude.{◌≡◌, ◌≢◌, []};
 ghost use Rattle.kf_core.specs.declared.caller.Phase.TheVariants as phase_of;
 ghost use Rattle.kf_words.specs.Callers.{handle_of, having_seen, view_of};
@@ -10,7 +10,7 @@ use crate::sight::Sight;
 use atomic_table::Seat;
 
 impl CallerSeat {
-    /// A new seat, which holds nothing and has seen what this one has.
+    /// Makes a new seat, which holds nothing and has seen what this seat has seen.
     pub(crate) fn report(&mut self) -> Seat<(), Sight>
         requires { (view_of self.old).phase ≢ phase_of.Spent }
         ensures me { self.new.token.me ≡ self.old.token.me }
@@ -22,7 +22,7 @@ impl CallerSeat {
         self.table.shared.split_seat::<Reports>(&mut self.token)
     }
 
-    /// From now on the seat has seen just what the other has, which ends.
+    /// From now on the seat has seen exactly what the other seat has seen. The other seat ends.
     pub(crate) fn take_over<E: Knowing>(&mut self, other: Seat<(), Sight>)
         requires table { other.table_id ≡ self.old.token.table_id }
         requires bare { other.me.1 ≡ [] }

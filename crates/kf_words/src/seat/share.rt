@@ -1,5 +1,5 @@
-//! Another hold from a seat that has one: one hold more is counted on the slot's hold word, and a new seat
-//! gets it. No lock is asked for, and no node need be linked.
+//! Makes another hold, from a seat that has one. The slot's hold word counts one more hold, and a new seat
+//! gets it. No lock is taken, and the node need not be linked.
 ghost use Rattle.std.specs.Prelude.{◌≡◌, ◌≢◌, None, IfOk, IfErr, IfSome};
 ghost use Rattle.kf_words.specs.Layout.{HasSpare};
 ghost use Rattle.kf_words.specs.Steps.{after_miss};
@@ -16,17 +16,17 @@ use atomic_table::Seat;
 use kf_core::Refusal;
 use std::sync::Arc;
 
-/// How often an exchange is tried where other holds come and go between.
+/// How often an exchange is attempted if other holds come and go in between.
 const TRIES: u32 = 64;
 
 impl CallerSeat {
-    /// The hold word as it is now, by a load that the rule does not see.
+    /// Loads the hold word as it is now, by a load that the rule does not see.
     pub(crate) fn peek_holds(&self) -> u64 {
         self.table.shared.peek(self.hold_index())
     }
 
-    /// Loads the hold word. The step names the most holds of a slot: it is an exchange of that number by
-    /// itself, which changes no word.
+    /// Loads the hold word. The step also names the greatest number of holds of a slot: it is a
+    /// compare-and-exchange of that number for itself, which changes no word.
     fn see_holds(&mut self) -> u64
         requires { IsAtRest (view_of self.old) }
         ensures same { IsSameSeat (handle_of self.old) (handle_of self.new) }
@@ -42,8 +42,8 @@ impl CallerSeat {
             .compare_exchange::<SeesHolds>(&mut self.token, word, most, most)
     }
 
-    /// Counts one hold more if the hold word is as expected, and gives it a new seat. Err is the word that
-    /// was found instead.
+    /// Counts one more hold if the hold word is as expected, and gives the hold a new seat. An Err has the
+    /// word that was found instead.
     fn exchange(&mut self, expected: u64) -> Result<Seat<(), Sight>, u64>
         requires rests { IsAtRest (view_of self.old) }
         requires spare { HasSpare self.old.most expected }
@@ -67,8 +67,9 @@ impl CallerSeat {
         Ok(self.table.shared.split_seat::<SharesHold>(&mut self.token))
     }
 
-    /// One try at a hold more, if the hold word is as guessed. Err is the word that was found instead, and
-    /// None if that has no spare place.
+    /// Makes one attempt at another hold. It succeeds if the guessed word has a spare place, and the hold
+    /// word is as guessed. An Err has the word that was found instead. It may be None if that word has no
+    /// spare place.
     fn try_another(&mut self, guess: u64) -> Result<Seat<(), Sight>, Option<u64>>
         requires { IsAtRest (view_of self.old) }
         ensures same { IsSameSeat (handle_of self.old) (handle_of self.new) }
@@ -95,7 +96,7 @@ impl CallerSeat {
         }
     }
 
-    /// Counts one hold more, and gives it a new seat.
+    /// Counts one more hold, and gives the hold a new seat.
     ///
     /// Refusals, in order: TooManyHolds, Busy.
     fn count_another(&mut self) -> Result<Seat<(), Sight>, Refusal>
@@ -121,8 +122,8 @@ impl CallerSeat {
         Err(Refusal::Busy)
     }
 
-    /// Why there is no other hold if the table can have no further owner: lack of memory only if the slot
-    /// has room.
+    /// Why no other hold is made if the table can have no further owner. It is NoMemory only if the slot has
+    /// a spare place.
     fn refuse_another(&mut self) -> Refusal
         requires { IsAtRest (view_of self.old) }
         ensures same { IsSameSeat (handle_of self.old) (handle_of self.new) }
@@ -138,7 +139,7 @@ impl CallerSeat {
         }
     }
 
-    /// Another seat of the same key and node, which holds the slot once more.
+    /// Makes another seat of the same key and node, which has one more hold of the slot.
     pub(crate) fn another(&mut self) -> Result<CallerSeat, Refusal>
         requires { IsAtRest (view_of self.old) }
         ensures same { IsSameSeat (handle_of self.old) (handle_of self.new) }

@@ -26,7 +26,7 @@ impl CallerSeat {
         active_index(self.key.slot)
     }
 
-    /// Counts one user more, and returns the word as it was.
+    /// Counts one more user, and returns the word that it found.
     pub(crate) fn try_reference(&mut self) -> u64
         requires { IsAtRest (view_of self.old) }
         ensures same { IsSameSeat (handle_of self.old) (handle_of self.new) }
@@ -39,7 +39,7 @@ impl CallerSeat {
             .fetch_add::<Tries>(&mut self.token, word, 1)
     }
 
-    /// Takes back the count of a refused try. The wake that it owes is by the word that this step found.
+    /// Undoes the count of a refused try. The wake that it owes depends on the word that this step found.
     pub(crate) fn undo(&mut self) -> WakeDue
         requires turned { (view_of self.old).phase ≡ phase_of.Turned }
         requires due { (view_of self.old).undo_due ≡ true }
@@ -56,7 +56,7 @@ impl CallerSeat {
         WakeDue::new(self.key.slot, found)
     }
 
-    /// Counts one user less at the end of a call.
+    /// Takes one user off the count, at the end of a call.
     pub(crate) fn drop_reference(&mut self) -> WakeDue
         requires { HasReference (view_of self.old) }
         ensures same { IsSameSeat (handle_of self.old) (handle_of self.new) }
@@ -72,7 +72,7 @@ impl CallerSeat {
         WakeDue::new(self.key.slot, found)
     }
 
-    /// Counts one user less inside the call.
+    /// Takes one user off the count, inside the call.
     pub(crate) fn break_off(&mut self) -> WakeDue
         requires { IsInPhase phase_of.Running (view_of self.old) }
         ensures same { IsSameSeat (handle_of self.old) (handle_of self.new) }
@@ -88,7 +88,7 @@ impl CallerSeat {
         WakeDue::new(self.key.slot, found)
     }
 
-    /// Counts one user more inside the call, whatever the word holds.
+    /// Counts one more user inside the call, whatever the word is, and returns the word that it found.
     pub(crate) fn take_again(&mut self) -> u64
         requires { IsInPhase phase_of.Broken (view_of self.old) }
         ensures same { IsSameSeat (handle_of self.old) (handle_of self.new) }
@@ -112,7 +112,7 @@ impl CallerSeat {
         self.table.shared.load::<Looks>(&mut self.token, word)
     }
 
-    /// Sets the bit of a hidden key, and returns the word as it was.
+    /// Sets the bit HIDE, and returns the word that it found.
     pub(crate) fn set_hide(&mut self) -> u64
         requires { IsAtRest (view_of self.old) }
         ensures same { IsSameSeat (handle_of self.old) (handle_of self.new) }
@@ -136,7 +136,7 @@ impl CallerSeat {
         self.table.shared.load::<LooksHidden>(&mut self.token, word)
     }
 
-    /// Takes the bit of its hidden key off.
+    /// Clears the bit HIDE, and returns the word that it found.
     pub(crate) fn clear_hide(&mut self) -> u64
         requires { IsInPhase phase_of.Hidden (view_of self.old) }
         ensures same { IsSameSeat (handle_of self.old) (handle_of self.new) }
@@ -169,7 +169,7 @@ impl CallerSeat {
         self.table.shared.load::<Parts>(&mut self.token, word)
     }
 
-    /// Whether this hold word has as many holds as there may be.
+    /// Whether this hold word has the greatest number of holds.
     pub(crate) fn is_full(&self, word: u64) -> bool
         ensures { result ≡ is_full self.now.most word }
     {
@@ -177,7 +177,7 @@ impl CallerSeat {
     }
 }
 
-/// Gives a seat's hold of its slot back, and names the most holds of a slot.
+/// Releases a seat's hold of its slot, and names the greatest number of holds of a slot.
 fn release_of<E: Most>(seat: &mut CallerSeat) -> u64
     requires idle { may_release (handle_of seat.old).phase ≡ true }
     requires settled { (handle_of seat.old).undo_due ≡ false }
@@ -194,8 +194,8 @@ fn release_of<E: Most>(seat: &mut CallerSeat) -> u64
         .fetch_sub::<ReleasesOf<E>>(&mut seat.token, word, 1)
 }
 
-/// Gives a seat's hold of its slot back, which is one word step, and returns the hold word that it found. The
-/// `release` of each value that holds a slot calls it.
+/// Releases a seat's hold of its slot, in one word step, and returns the hold word that it found. The
+/// `release` of each type that holds a slot calls this.
 pub fn release_seat(seat: &mut CallerSeat) -> u64
     requires idle { may_release (handle_of seat.old).phase ≡ true }
     requires settled { (handle_of seat.old).undo_due ≡ false }

@@ -12,20 +12,20 @@ use kf_script::{Board, Reply, Request};
 use kf_shared::Naming;
 use std::sync::Wait;
 
-/// `mkdir`, `link`, `plug`: the key of the new node.
+/// Replies to `mkdir`, `link` or `plug`: the key of the new node, or why there is none.
 fn answer_made(made: Result<Key, Refusal>, reply: &mut Reply)
     ensures { IsKey reply.new }
 {
     tell_key(reply, made.map_err(FileError::Refused));
 }
 
-/// What an open file is for.
+/// What a file is opened for.
 fn wanted(read: bool, write: bool) -> Want {
     Want { read, write }
 }
 
 impl<W: ScriptOps, N: Naming, R: Wait> WorkerBoard<'_, W, N, R> {
-    /// `ls`: the names.
+    /// Replies to `ls`: the names, or why there are none.
     fn answer_list(&self, path: &[u8], reply: &mut Reply)
         ensures { AreNames reply.new }
     {
@@ -34,7 +34,7 @@ impl<W: ScriptOps, N: Naming, R: Wait> WorkerBoard<'_, W, N, R> {
         }
     }
 
-    /// `readlink`: the text.
+    /// Replies to `readlink`: the text, or why there is none.
     fn answer_read_link(&self, path: &[u8], reply: &mut Reply)
         ensures { IsLinkReply reply.new }
     {
@@ -43,7 +43,7 @@ impl<W: ScriptOps, N: Naming, R: Wait> WorkerBoard<'_, W, N, R> {
         }
     }
 
-    /// `read`: the bytes.
+    /// Replies to `read`: the bytes, or why there are none.
     fn answer_read(&mut self, file: usize, offset: u64, most: usize, reply: &mut Reply)
         requires { file < 26 }
         ensures { AreBytes most reply.new }
@@ -53,7 +53,7 @@ impl<W: ScriptOps, N: Naming, R: Wait> WorkerBoard<'_, W, N, R> {
         }
     }
 
-    /// `write`: the number of bytes taken.
+    /// Replies to `write`: the number of bytes taken, or why there is none.
     fn answer_write(&mut self, file: usize, text: &[u8], reply: &mut Reply)
         requires { file < 26 }
         ensures { IsCount reply.new }

@@ -1,4 +1,4 @@
-//! The end of a board: all that it holds is given back.
+//! The end of a board: all its holds are released.
 
 use super::WorkerBoard;
 use super::files::close_file;
@@ -7,7 +7,8 @@ use kf_files::BoxedFile;
 use kf_shared::{Naming, PathHolder};
 use std::sync::Wait;
 
-/// Closes each file that is open: nothing is left of them that a clause could speak of.
+/// Closes each file that is open. It has no clause, since nothing is left of the files that a clause could
+/// describe.
 pub fn close_all<N: Naming>(mut files: Vec<Option<BoxedFile<N>>>) {
     while let Some(place) = files.pop() {
         if let Some(file) = place {
@@ -17,7 +18,7 @@ pub fn close_all<N: Naming>(mut files: Vec<Option<BoxedFile<N>>>) {
     files.destroy_empty();
 }
 
-/// Ends what holds nodes without the lock, and gives its own hold back.
+/// Ends the holder that takes holds of nodes without the lock, and releases its own hold.
 pub fn end_holder<N: Naming>(holder: Option<PathHolder<N>>) {
     if let Some(holder) = holder {
         holder.end().release();
@@ -25,8 +26,8 @@ pub fn end_holder<N: Naming>(holder: Option<PathHolder<N>>) {
 }
 
 impl<W: ScriptOps, N: Naming, R: Wait> WorkerBoard<'_, W, N, R> {
-    /// Closes its files and shows the files that it hid, and gives all their holds back. Nothing is left of
-    /// it that a clause could speak of.
+    /// Closes its files, shows the files that it hid, and releases all their holds. It has no clause, since
+    /// nothing is left of the board that a clause could describe.
     pub fn end(self) {
         let WorkerBoard {
             rt,

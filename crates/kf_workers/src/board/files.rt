@@ -1,4 +1,4 @@
-//! The requests on open files, and notify.
+//! The requests on open files, and `notify`.
 
 ghost use Rattle.std.specs.Prelude.{◌≡◌, ◌<◌, IfOk, OnOk, length};
 ghost use Rattle.kf_workers.specs.Replies.{AreBytes, IsCount};
@@ -16,14 +16,16 @@ use kf_shared::Naming;
 use kf_words::Hold;
 use std::sync::Wait;
 
-/// Closes a file, and gives its hold back: of that no clause could speak. Its page is left.
+/// Closes a file, releases its hold, and returns its page. It has no clause, since nothing is left of the
+/// hold that a clause could describe.
 pub fn close_file<N: Naming>(file: BoxedFile<N>) -> Box<PageApart> {
     let (hold, _post, page) = file.into_parts();
     hold.release();
     page
 }
 
-/// A page of a file that was closed, or else a new one. `NoMemory` if that could not be had.
+/// A page of a file that was closed or, if there is none, a new one. It fails with `NoMemory` if memory for a
+/// new one was refused.
 fn take_page(pages: &mut Vec<Box<PageApart>>) -> Result<Box<PageApart>, Refusal> {
     if let Some(page) = pages.pop() {
         return Ok(page);
@@ -31,7 +33,7 @@ fn take_page(pages: &mut Vec<Box<PageApart>>) -> Result<Box<PageApart>, Refusal>
     Box::new(*pages.allocator(), PageApart::new()).map_err(|_| Refusal::NoMemory)
 }
 
-/// Reads a file from an offset on, through a page: puts the bytes, at most 4,096, into the reply, or why
+/// Reads a file from an offset on, through a page. It puts the bytes, at most 4,095, into the reply, or why
 /// there are none.
 fn read_through<W: ScriptOps, N: Naming, R: Wait>(
     rt: &R,
@@ -51,7 +53,8 @@ fn read_through<W: ScriptOps, N: Naming, R: Wait>(
 }
 
 impl<W: ScriptOps, N: Naming, R: Wait> WorkerBoard<'_, W, N, R> {
-    /// A hold of the live node at a path: without the tree lock, or in one turn of it.
+    /// A hold of the live node at a path. It is taken without the tree's lock if that is possible, and
+    /// otherwise under it.
     fn hold_live(&mut self, path: &[u8]) -> Result<Hold, Refusal>
         ensures table { IfOk result (λ hold. hold.table ≡ N.table) }
     {
@@ -63,7 +66,7 @@ impl<W: ScriptOps, N: Naming, R: Wait> WorkerBoard<'_, W, N, R> {
         editor.hold(key)
     }
 
-    /// Gives a hold back, to make the next one of.
+    /// Releases a hold. If the board has a holder, the next hold is made with the memory of this one.
     fn give_back(&mut self, hold: Hold)
         requires table { hold.table ≡ N.table }
     {
@@ -73,7 +76,7 @@ impl<W: ScriptOps, N: Naming, R: Wait> WorkerBoard<'_, W, N, R> {
         }
     }
 
-    /// A post of a slot of the tree. There is no slot without a number.
+    /// A post of a slot of the tree. Each slot of the tree has an event number.
     fn post(&mut self, slot: u32) -> Result<Post, Refusal>
         ensures slot { IfOk result (λ post. post.slot ≡ slot) }
     {
@@ -83,7 +86,7 @@ impl<W: ScriptOps, N: Naming, R: Wait> WorkerBoard<'_, W, N, R> {
         self.posts.post(slot)
     }
 
-    /// Opens the file of a hold. After a refusal the hold is given back.
+    /// Opens the file of a hold. After a refusal the hold is released.
     fn open_held(&mut self, hold: Hold, want: Want) -> Result<BoxedFile<N>, Refusal>
         requires table { hold.table ≡ N.table }
     {
@@ -133,7 +136,7 @@ impl<W: ScriptOps, N: Naming, R: Wait> WorkerBoard<'_, W, N, R> {
         Ok(())
     }
 
-    /// Closes the file of a letter.
+    /// Closes the file under a letter.
     pub(super) fn close(&mut self, file: usize) -> Result<(), Refusal>
         requires letter { file < 26 }
     {
@@ -148,8 +151,8 @@ impl<W: ScriptOps, N: Naming, R: Wait> WorkerBoard<'_, W, N, R> {
         }
     }
 
-    /// Reads the file of a letter from an offset on: puts the bytes, at most 4,095, into the reply, or why
-    /// there are none.
+    /// Reads the file under a letter from an offset on. It puts the bytes, at most 4,095, into the reply, or
+    /// why there are none.
     pub(super) fn read(
         &mut self,
         file: usize,
@@ -168,8 +171,8 @@ impl<W: ScriptOps, N: Naming, R: Wait> WorkerBoard<'_, W, N, R> {
         Ok(())
     }
 
-    /// Writes a text into the file of a letter: puts the number that its store returned into the reply, or
-    /// why there is none.
+    /// Writes a text into the file under a letter. It puts the number that the store returned into the reply,
+    /// or why there is none.
     pub(super) fn write(
         &mut self,
         file: usize,
@@ -188,7 +191,7 @@ impl<W: ScriptOps, N: Naming, R: Wait> WorkerBoard<'_, W, N, R> {
         Ok(())
     }
 
-    /// Whether the file of a letter has changed since its last show.
+    /// Whether the file under a letter has changed since its last show.
     pub(super) fn poll(&mut self, file: usize) -> Result<bool, Refusal>
         requires letter { file < 26 }
     {
@@ -198,7 +201,7 @@ impl<W: ScriptOps, N: Naming, R: Wait> WorkerBoard<'_, W, N, R> {
         }
     }
 
-    /// The key of the file at a path, live or not. One turn of the tree lock.
+    /// The key of the file at a path, whether it is live or not. It takes the tree's lock once, for reading.
     fn file_at(&self, path: &[u8]) -> Result<Key, Refusal> {
         let reader = self.common.tree.read(self.rt);
         let key = reader.state().walk(path)?;
@@ -209,7 +212,7 @@ impl<W: ScriptOps, N: Naming, R: Wait> WorkerBoard<'_, W, N, R> {
         }
     }
 
-    /// Notifies the file at a path: each open file on its slot has changed.
+    /// Notifies the file at a path: each file that is open on its slot then counts as changed.
     pub(super) fn notify(&mut self, path: &[u8]) -> Result<(), Refusal> {
         let key = self.file_at(path)?;
         match self.post(key.slot)?.notify() {

@@ -1,4 +1,4 @@
-//! The requests that hide a file, and show it again.
+//! The requests that hide a file and that show it again.
 
 ghost use Rattle.std.specs.Prelude.{◌≡◌, IfSome};
 
@@ -9,20 +9,21 @@ use kf_core::{Key, Refusal};
 use kf_shared::{Editor, Naming};
 use std::sync::Wait;
 
-/// Shows the file of a token again, and gives its hold back.
+/// Shows the file of a token again, and releases its hold.
 fn show_token<N: Naming>(editor: &mut Editor<'_, N>, token: HiddenFile<N>) {
     editor.show(token.into_hidden()).release();
 }
 
 impl<W: ScriptOps, N: Naming, R: Wait> WorkerBoard<'_, W, N, R> {
-    /// Shows the file of a token again. One turn of the tree lock.
+    /// Shows the file of a token again, and releases its hold. It takes the tree's lock once.
     pub(super) fn spend(&self, token: HiddenFile<N>) {
         let mut editor = self.common.tree.edit(self.rt);
         show_token(&mut editor, token);
     }
 
-    /// Keeps a token in its slot. While it is kept the slot is not given again, so it is the slot's only one:
-    /// where another lay there, or there is no such slot, the file is shown again.
+    /// Keeps a token at the place of its slot. While it is kept, the slot is not used again, so the slot has
+    /// no other token. If there were another token at this place, its file would be shown again. If there
+    /// were no such place, the file of the new token would be.
     fn keep(&mut self, token: HiddenFile<N>) {
         let slot = token.key().slot as usize;
         while self.tokens.len() <= slot && self.tokens.len() < self.tokens.capacity() {
@@ -37,8 +38,8 @@ impl<W: ScriptOps, N: Naming, R: Wait> WorkerBoard<'_, W, N, R> {
         }
     }
 
-    /// Hides the file at a path, waits for the callbacks there, and keeps its token. What the path named is
-    /// found, held and hidden in one turn of the tree lock.
+    /// Hides the file at a path, waits for its callbacks, and keeps its token. The file is found, held and
+    /// hidden in one critical section of the tree.
     pub(super) fn hide(&mut self, path: &[u8]) -> Result<(), Refusal> {
         let mut editor = self.common.tree.edit(self.rt);
         let key = editor.state().walk(path)?;
@@ -55,7 +56,7 @@ impl<W: ScriptOps, N: Naming, R: Wait> WorkerBoard<'_, W, N, R> {
         }
     }
 
-    /// Takes this board's token of a node out, if it has one.
+    /// Takes out this board's token of a node, if it has one.
     fn take_token(tokens: &mut Vec<Option<HiddenFile<N>>>, key: Key) -> Option<HiddenFile<N>>
         ensures own { IfSome result (λ token. token.key ≡ key) }
     {
@@ -66,8 +67,8 @@ impl<W: ScriptOps, N: Naming, R: Wait> WorkerBoard<'_, W, N, R> {
         }
     }
 
-    /// Shows the file at a path again, if this board has its token, and spends that. One turn of the tree
-    /// lock.
+    /// Shows the file at a path again if this board has its token, and spends the token. It takes the tree's
+    /// lock once.
     pub(super) fn show(&mut self, path: &[u8]) -> Result<(), Refusal> {
         let mut editor = self.common.tree.edit(self.rt);
         let key = editor.state().walk(path)?;

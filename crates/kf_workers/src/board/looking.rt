@@ -1,4 +1,4 @@
-//! The requests that only look: each in one turn of the tree lock.
+//! The requests that only look. Each takes the tree's lock once, for reading.
 
 ghost use Rattle.std.specs.Prelude.{OnOk};
 ghost use Rattle.kf_workers.specs.Replies.{AreNames, IsLinkReply};
@@ -12,19 +12,20 @@ use kf_shared::Naming;
 use kf_tree::Stat;
 use std::sync::Wait;
 
-/// The most names of a listing: those of all slots.
+/// The greatest number of names in a listing: one for each slot.
 const MOST_NAMES: usize = MOST_SLOTS as usize;
 
 impl<W: ScriptOps, N: Naming, R: Wait> WorkerBoard<'_, W, N, R> {
-    /// What is reported of the node at a path, live or not.
+    /// What `stat` reports of the node at a path, whether it is live or not.
     pub(super) fn stat(&self, path: &[u8]) -> Result<Stat, Refusal> {
         let reader = self.common.tree.read(self.rt);
         let key = reader.state().walk(path)?;
         reader.state().stat(key)
     }
 
-    /// Writes the names in a live directory. They are copied once, into the reply's memory, which is the
-    /// board's own: while the lock is held nothing is put out, and nobody is waited for.
+    /// Writes the names in a live directory. They are copied once, into the memory of the reply, which only
+    /// this board uses. So while the lock is held, nothing is written to a stream, and the thread waits for
+    /// nobody.
     pub(super) fn list(&self, path: &[u8], reply: &mut Reply) -> Result<(), Refusal>
         ensures { OnOk result (AreNames reply.new) }
     {
@@ -44,7 +45,7 @@ impl<W: ScriptOps, N: Naming, R: Wait> WorkerBoard<'_, W, N, R> {
         reply.set_text(text.as_slice())
     }
 
-    /// How many commands are stored.
+    /// How many commands the tree stores.
     pub(super) fn count_commands(&self) -> usize {
         self.common.tree.read(self.rt).state().commands().len()
     }

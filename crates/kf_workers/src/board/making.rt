@@ -10,14 +10,14 @@ use kf_shared::Naming;
 use std::sync::Wait;
 
 impl<W: ScriptOps, N: Naming, R: Wait> WorkerBoard<'_, W, N, R> {
-    /// A directory at a path, activated if it is to be live. One turn of the tree lock.
+    /// Makes a directory at a path, activated if it is to be live. It takes the tree's lock once.
     pub(super) fn make_directory(&self, path: &[u8], is_live: bool) -> Result<Key, Refusal> {
         let mut editor = self.common.tree.edit(self.rt);
         let (dir, name) = editor.state().walk_parent(path)?;
         editor.create(dir, name, Node::Dir, is_live)
     }
 
-    /// A live link at a path to the node at another one. One turn of the tree lock.
+    /// Makes a live link at a path to the node at another path. It takes the tree's lock once.
     pub(super) fn make_link(&self, path: &[u8], target: &[u8]) -> Result<Key, Refusal> {
         let mut editor = self.common.tree.edit(self.rt);
         let (dir, name) = editor.state().walk_parent(path)?;
@@ -25,19 +25,20 @@ impl<W: ScriptOps, N: Naming, R: Wait> WorkerBoard<'_, W, N, R> {
         editor.create(dir, name, Node::Link { target }, true)
     }
 
-    /// The directory of a path's last component, and that.
+    /// The directory that contains a path's last component, and that component.
     fn parent_of<'a>(&self, path: &'a [u8]) -> Result<(Key, &'a [u8]), Refusal> {
         self.common.tree.read(self.rt).state().walk_parent(path)
     }
 
-    /// A live file of this mode and tag.
+    /// Makes a live file of this mode and tag.
     fn add_file(&self, dir: Key, name: &[u8], mode: u16, tag: u64) -> Result<Key, Refusal> {
         let mut editor = self.common.tree.edit(self.rt);
         editor.create(dir, name, Node::File { mode, tag }, true)
     }
 
-    /// A live file of this mode and text at a path: what is wrong with the path is reported first, then the
-    /// text is kept under a new tag, then the file is made. If that is refused its text goes again.
+    /// Makes a live file of this mode and text at a path. It first finds the directory, then keeps the text
+    /// under a new tag, and then makes the file. So a path without a directory is reported before a fault of
+    /// the text. If the file is refused, its text is dropped.
     pub(super) fn make_file(
         &mut self,
         path: &[u8],
@@ -66,14 +67,15 @@ impl<W: ScriptOps, N: Naming, R: Wait> WorkerBoard<'_, W, N, R> {
         }
     }
 
-    /// Activates the subtree at a path. One turn of the tree lock.
+    /// Activates the subtree at a path. It takes the tree's lock once.
     pub(super) fn activate(&self, path: &[u8]) -> Result<(), Refusal> {
         let mut editor = self.common.tree.edit(self.rt);
         let key = editor.state().walk(path)?;
         editor.activate(key)
     }
 
-    /// Moves the node at a path into the directory at another, under a name. One turn of the tree lock.
+    /// Moves the node at a path into the directory at another path, under a name. It takes the tree's lock
+    /// once.
     pub(super) fn move_node(&self, path: &[u8], dir: &[u8], name: &[u8]) -> Result<(), Refusal> {
         let mut editor = self.common.tree.edit(self.rt);
         let key = editor.state().walk(path)?;
@@ -81,11 +83,12 @@ impl<W: ScriptOps, N: Naming, R: Wait> WorkerBoard<'_, W, N, R> {
         editor.rename(key, dir, name)
     }
 
-    /// Puts the canonical list of the tree in place of the stored commands. One turn of the tree lock.
+    /// Replaces the stored commands with the canonical list that makes this tree. It takes the tree's lock
+    /// once.
     pub(super) fn compact(&self) -> Result<(), Refusal> {
         self.common.tree.edit(self.rt).compact()
     }
-    /// Plugs a device on the run's bus. Returns the key of its directory.
+    /// Plugs a device into the run's bus. It returns the key of the device's directory.
     pub(super) fn plug(&self, name: &[u8], text: &[u8]) -> Result<Key, Refusal> {
         let common = self.common;
         common.bus.plug(self.rt, &common.tree, name, text)

@@ -20,7 +20,7 @@ use kf_core::{Caller, Key, Phase, Refusal};
 use std::alloc::AllocError;
 
 impl World {
-    /// The caller goes to this phase. Until now it was counted as a caller in the phase `from`.
+    /// Puts a caller into this phase. Until now it was counted like a caller in the phase `from`.
     #[inline(always)]
     fn put_phase(&mut self, id: usize, key: Key, from: Phase, phase: Phase)
         requires there { (was : Phase) × IsCaller self.old.world id key was × CountsAs from was }
@@ -67,7 +67,7 @@ impl World {
         self.is_linked(key) || self.is_held(key)
     }
 
-    /// Adds a caller, which holds the key.
+    /// Adds a caller that holds the key.
     fn add_caller(&mut self, key: Key) -> Result<(), AllocError>
         requires may { MayPin self.old.world key }
         ensures added { OnOk result (self.new ≡ bounded (with_caller self.old.world key) self.old.limit) }
@@ -81,11 +81,12 @@ impl World {
         Ok(())
     }
 
-    /// Adds a caller, which holds the key, and returns its number. Numbers begin at 0. None is used twice.
+    /// Adds a caller that holds the key, and returns the caller's number. Numbers begin at 0, and none is
+    /// used twice.
     ///
     /// Errors, in this order: `NoEntry` if the node is not linked and no caller holds it; `TooManyHolds` if
-    /// its slot has as many holds as the limit allows; `NoMemory` if a request for memory was refused. After
-    /// an error the world is as before.
+    /// its slot already has the greatest number of holds; `NoMemory` if a request for memory was refused.
+    /// After an error the world is as before.
     pub fn pin(&mut self, key: Key) -> Result<usize, Refusal>
         ensures step { IfOk result (λ id. Happens self.old (Pin id key) self.new) }
         ensures room { OnOk result (holds self.old.world key.slot < self.old.limit) }
@@ -103,8 +104,8 @@ impl World {
         Ok(id)
     }
 
-    /// Tries for an active reference (`kernfs_get_active`). If the node is live, it returns true, and the
-    /// caller is Running; else it returns false, and the caller is Turned.
+    /// Tries to take an active reference (`kernfs_get_active`). If the node is live, this returns true, and
+    /// the caller is then Running. Otherwise it returns false, and the caller is then Turned.
     ///
     /// Condition: the caller is Still or Turned.
     pub fn enter(&mut self, id: usize) -> bool
@@ -144,7 +145,7 @@ impl World {
         self.put_phase(id, key, Phase::Running, Phase::Broken);
     }
 
-    /// Takes a reference again inside the call (`kernfs_unbreak_active_protection`), also if the node is no
+    /// Takes a reference again inside the call (`kernfs_unbreak_active_protection`), even if the node is no
     /// longer live. The caller is then Restored.
     ///
     /// Condition: the caller is Broken.
@@ -156,9 +157,9 @@ impl World {
         self.put_phase(id, key, Phase::Broken, Phase::Restored);
     }
 
-    /// If the caller is Still or Turned, its node is doomed, and nobody has a reference to the node, the
-    /// caller is then Drained (`kernfs_drain` has returned), and this returns true. Else it returns false,
-    /// and nothing changes.
+    /// Checks once whether the node of a caller is drained (`kernfs_drain`). If the caller is Still or
+    /// Turned, its node is doomed, and nobody has a reference to the node, this returns true, and the caller
+    /// is then Drained. Otherwise it returns false, and nothing changes.
     pub fn look(&mut self, id: usize) -> bool
         ensures step { OnTrue result (Happens self.old (Look id) self.new) }
         ensures same { OnFalse result (self.new ≡ self.old) }
@@ -187,8 +188,9 @@ impl World {
         self.is_doomed(key) && self.counts_of(key.slot).references == 0
     }
 
-    /// If the caller is Drained and its node is not linked, the caller is then Parted, and this returns true.
-    /// Else it returns false, and nothing changes.
+    /// Checks whether the node of a drained caller has left the tree. If the caller is Drained and its node
+    /// is not linked, this returns true, and the caller is then Parted. Otherwise it returns false, and
+    /// nothing changes.
     pub fn part(&mut self, id: usize) -> bool
         ensures step { OnTrue result (Happens self.old (Part id) self.new) }
         ensures same { OnFalse result (self.new ≡ self.old) }
@@ -204,8 +206,9 @@ impl World {
         true
     }
 
-    /// Hides the node of a caller: it is not live until the caller shows it again. The caller is then Hiding,
-    /// and this returns true. If a caller hides the node already, it returns false, and nothing changes.
+    /// Hides the node of a caller: the node is not live until the caller shows it again. The caller is then
+    /// Hiding, and this returns true. If a caller hides the node already, this returns false, and nothing
+    /// changes.
     ///
     /// Condition: the caller is Still or Turned.
     pub fn hide(&mut self, id: usize) -> bool
@@ -224,8 +227,9 @@ impl World {
         true
     }
 
-    /// If the caller is Hiding and nobody has a reference to its node, the caller is then Hidden, and this
-    /// returns true. Else it returns false, and nothing changes.
+    /// Checks once whether the node that a caller hides has no references. If the caller is Hiding and nobody
+    /// has a reference to its node, this returns true, and the caller is then Hidden. Otherwise it returns
+    /// false, and nothing changes.
     pub fn look_hidden(&mut self, id: usize) -> bool
         ensures step { OnTrue result (Happens self.old (LookHidden id) self.new) }
         ensures same { OnFalse result (self.new ≡ self.old) }
@@ -263,7 +267,7 @@ impl World {
         self.put_phase(id, hider, Phase::Hidden, Phase::Still);
     }
 
-    /// Releases the hold. The caller stays in the list, and is Spent.
+    /// Releases the hold. The caller stays in the list, and is then Spent.
     ///
     /// Condition: the caller is Still, Turned, Drained or Parted.
     pub fn release(&mut self, id: usize)

@@ -19,7 +19,7 @@ pub(crate) struct Hint {
 }
 
 impl Hint {
-    /// For a world of this many slots. The search looks at each slot from 1 up.
+    /// The hint of a new world with this many slots. The search looks at each slot from 1 up.
     pub(super) fn new(alloc: Global, slots: u32) -> Result<Hint, Refusal>
         ensures looks { IfOk result (λ hint. (slot : ℕ) → 1 ≤ slot → ¬ Skips hint.lowest hint.taken slot) }
         ensures covered { IfOk result (λ hint. Covers hint.taken slots) }
@@ -29,7 +29,7 @@ impl Hint {
         Ok(Hint { lowest: 1, taken })
     }
 
-    /// Takes note of a change of one slot. If the slot is free now, the search looks at it.
+    /// Records a change of one slot. If the slot is free now, the search looks at it.
     pub(super) fn note(&mut self, slot: u32, free: bool)
         requires within { Covers self.old.taken slot }
         ensures looks { IsTrue free → 1 ≤ slot → ¬ Skips self.new.lowest self.new.taken slot }
@@ -46,7 +46,8 @@ impl Hint {
         }
     }
 
-    /// From now on the search begins at this slot. Each slot between the old begin and this one is marked.
+    /// Makes the search begin at this slot, and marks each slot from the old beginning up to but not
+    /// including this one.
     pub(super) fn raise(&mut self, lowest: u32)
         requires from_one { 1 ≤ lowest }
         ensures skips { (slot : ℕ) → Skips self.new.lowest self.new.taken slot → (slot < lowest)

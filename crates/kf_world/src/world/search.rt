@@ -27,7 +27,7 @@ impl World {
         }
     }
 
-    /// The lowest free slot of a block. It looks only at slots that are not marked.
+    /// The lowest free slot of a block. This looks only at slots that are not marked.
     ///
     /// Condition: no slot below the block is free.
     fn free_in_block(&self, block: usize) -> Option<u32>
@@ -51,7 +51,7 @@ impl World {
         None
     }
 
-    /// The lowest free slot of a group. It passes over the group if that is marked.
+    /// The lowest free slot of a group. If the group is marked, this returns None at once.
     ///
     /// Condition: no slot below the group is free.
     fn free_in_group(&self, group: usize) -> Option<u32>
@@ -92,7 +92,8 @@ impl World {
         None
     }
 
-    /// From now on the search begins after this slot if it began there, and else at the lowest free slot.
+    /// Makes the search begin after this slot if it began at this slot, and otherwise at the lowest free
+    /// slot.
     pub(super) fn pass_over(&mut self, slot: u32)
         requires taken { ¬ IsFree self.old.world slot }
         ensures { self.new ≡ self.old }
@@ -104,7 +105,7 @@ impl World {
         self.raise_lowest();
     }
 
-    /// From now on the search begins at the lowest free slot. If no slot is free, it begins past the last.
+    /// Makes the search begin at the lowest free slot, or past the last slot if no slot is free.
     pub(super) fn raise_lowest(&mut self)
         ensures { self.new ≡ self.old }
     {

@@ -12,7 +12,7 @@ use super::{World, marks_at};
 use kf_core::{Key, NodeFlags, SlotState};
 
 impl World {
-    /// The slot of the key gets the key's generation and these marks.
+    /// Gives the slot of the key the key's generation and these marks.
     fn put_marks(&mut self, key: Key, marks: Option<NodeFlags>)
         requires within { key.slot < length self.old.world.slots }
         requires step { (event : Event)
@@ -27,7 +27,7 @@ impl World {
         self.slots.set(key.slot as usize, state);
     }
 
-    /// Links a node, not activated and not doomed.
+    /// Links a new node, which is neither activated nor doomed.
     ///
     /// Condition: the slot has no linked node and only spent callers, and the key has its next generation.
     pub fn born(&mut self, key: Key)

@@ -11,29 +11,29 @@ use std::alloc::Global;
 /// This many slots make a block, and this many blocks make a group.
 pub(super) const BLOCK: u32 = 64;
 
-/// For each block a word with a bit for each of its slots, and for each group of blocks a mark. A slot is
-/// marked if its bit is set, or its group is marked.
+/// The marks: for each block a word with a bit for each of its slots, and for each group of blocks a mark. A
+/// slot is marked if its bit is set, or if its group is marked.
 #[derive(Drop)]
 pub(crate) struct Taken {
     pub(super) blocks: Vec<u64>,
     pub(super) groups: Vec<bool>,
 }
 
-/// The block in which a slot stands.
+/// The number of the block that a slot is in.
 pub(super) fn block_of(slot: u32) -> usize
     ensures { result ≡ slot / 64 }
 {
     (slot / BLOCK) as usize
 }
 
-/// The group in which a slot stands.
+/// The number of the group that a slot is in.
 pub(super) fn group_of(slot: u32) -> usize
     ensures { result ≡ slot / 4096 }
 {
     (slot / (BLOCK * BLOCK)) as usize
 }
 
-/// Marks the groups from the first one up to the end, if they exist.
+/// Marks the groups from `first` up to but not including `end`, as far as they exist.
 fn mark_groups(groups: &mut Vec<bool>, first: usize, end: usize)
     ensures marked { (place : ℕ) → slice_get groups.new.items place ≡ Some true →
         ((first ≤ place) × (place < end)) ⊎ (slice_get groups.old.items place ≡ Some true) }
@@ -48,7 +48,7 @@ fn mark_groups(groups: &mut Vec<bool>, first: usize, end: usize)
     }
 }
 
-/// Marks each slot of the blocks from the first one up to the end, if they exist.
+/// Marks each slot of the blocks from `first` up to but not including `end`, as far as they exist.
 fn mark_blocks(blocks: &mut Vec<u64>, first: usize, end: usize)
     ensures marked { (place bit : ℕ) → bit_at (slice_index blocks.new.items place) bit ≡ 1 →
         ((first ≤ place) × (place < end)) ⊎ (bit_at (slice_index blocks.old.items place) bit ≡ 1) }
@@ -63,7 +63,8 @@ fn mark_blocks(blocks: &mut Vec<u64>, first: usize, end: usize)
     }
 }
 
-/// Marks each slot of the blocks from the first one up to the end, except in whole groups between the two.
+/// Marks each slot of the blocks from `first` up to but not including `end`, except in the groups between
+/// the group of `first` and the group of `end`.
 fn mark_ends(blocks: &mut Vec<u64>, first: usize, end: usize)
     ensures marked { (place bit : ℕ) → bit_at (slice_index blocks.new.items place) bit ≡ 1 →
         ((first ≤ place) × (place < end)) ⊎ (bit_at (slice_index blocks.old.items place) bit ≡ 1) }
@@ -80,7 +81,7 @@ fn mark_ends(blocks: &mut Vec<u64>, first: usize, end: usize)
     }
 }
 
-/// Marks the first slots of a block, `count` of them, if the block exists.
+/// Marks the first `count` slots of a block, if the block exists.
 fn mark_low_slots(blocks: &mut Vec<u64>, block: usize, count: u32)
     requires few { count < 64 }
     ensures marked { (place bit : ℕ) → bit_at (slice_index blocks.new.items place) bit ≡ 1 →
@@ -109,7 +110,8 @@ impl Taken {
         })
     }
 
-    /// From now on the search looks at this slot. The other slots of its group keep their bits.
+    /// Clears the bit of a slot and the mark of its group, so that the search looks at this slot. The other
+    /// slots of the group keep their bits.
     pub(super) fn unmark(&mut self, slot: u32)
         requires covered { Covers self.old slot }
         ensures unmarked { ¬ IsMarked self.new slot }
@@ -121,8 +123,9 @@ impl Taken {
         self.groups[group_of(slot)] = false;
     }
 
-    /// From now on the search passes over each slot from one slot up to another: by the marks of whole groups
-    /// before the last group, and by bits in the last.
+    /// Marks each slot from `from` up to but not including `to`, so that the search passes over it. In the
+    /// group of `to`, slots are marked by their bits. The groups before that one, from the group of `from`
+    /// on, are marked as a whole.
     pub(super) fn mark_between(&mut self, from: u32, to: u32)
         ensures passed { (slot : ℕ) → IsMarked self.new slot → (slot < to) ⊎ IsMarked self.old slot }
         ensures groups { (slot : ℕ) → from ≤ slot → slot / 4096 < to / 4096 → Covers self.old slot →

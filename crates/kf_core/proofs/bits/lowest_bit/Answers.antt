@@ -1,4 +1,4 @@
--- There is a bit, since the word is not 0.
+-- The word has a bit that is set, since the word is not 0.
 use Rattle.std.proofs.Common.{arith, w64}
 use Rattle.std.proofs.lemmas.Nat.Bits.{bit_at-trailing_zeros}
 use Rattle.kf_core.proofs.bits.lowest_bit.Goals as goal

@@ -1,4 +1,4 @@
--- Each bit of the word is turned over.
+-- Each bit of the word is flipped.
 use Rattle.std.proofs.Common.{arith, w64}
 use Rattle.std.proofs.lemmas.Nat.Bits.{bit_at_not, bit_at-lt}
 use Rattle.kf_core.proofs.bits.other_bits.Goals as goal

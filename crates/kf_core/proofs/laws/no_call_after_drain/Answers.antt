@@ -1,4 +1,4 @@
--- Each world of a run from a safe one is safe, what is finished stays so, and no generation comes back.
+-- Each world in a run from a safe world is safe, a finished key stays finished, and no generation comes back.
 use Rattle.kf_core.proofs.Runs.{bare_safe, doomed_for_good, bare_for_good, bare_passed, step_starts}
 use Rattle.kf_core.proofs.laws.no_call_after_drain.Goals as goal
 

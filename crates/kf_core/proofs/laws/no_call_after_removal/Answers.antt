@@ -1,4 +1,4 @@
--- Each world of a run is safe, and what is finished stays so.
+-- Each world in a run is safe, and a finished key stays finished.
 use Rattle.kf_core.specs.Worlds.{bare}
 use Rattle.kf_core.proofs.Hiding.{hider_not_live}
 use Rattle.kf_core.proofs.Runs.{run_safe, finished_for_good, marked_for_good}

@@ -1,4 +1,4 @@
--- Each world of a run is safe, and a slot's generation never goes back.
+-- Each world in a run is safe, and a slot's generation never goes back.
 use Rattle.kf_core.proofs.Agreeing.{run_agrees}
 use Rattle.kf_core.proofs.AgreeingHidden.{run_tells_hidden}
 use Rattle.kf_core.proofs.Runs.{run_safe, linked_once, never_twice}

@@ -1,4 +1,4 @@
-//! Callbacks that misbehave: they fault, take less than they were given, or remove their own file.
+//! Callbacks that misbehave: they fail, take less than they were given, or remove their own file.
 ghost use Rattle.std.specs.Prelude.{◌≡◌};
 
 use super::driver::Plan;
@@ -14,8 +14,8 @@ use std::sync::Wait;
 
 const FAULT: FileError = FileError::Callback(Fault { number: 5 });
 
-/// A show that faults leaves no text, and a store that faults leaves it. A callback that takes or gives less
-/// than there is says so, and is not called again for the rest.
+/// A show that fails leaves no text, and a store that fails leaves the text as it was. If a callback takes or
+/// gives less than there is, the call says so, and the callback is not called again for the rest.
 const FAULTS: [Step; 15] = [
     Step::Polls(true),
     Step::Gives(Plan::Shows(b"abcd"), 0, b"abcd", 1),
@@ -47,7 +47,7 @@ const LEAVES: [Step; 8] = [
     Step::Gives(Plan::Shows(b"x"), 2, b"cd", 0),
 ];
 
-// A call on a file that took the lock of the tree would wait here for ever.
+// If a call on a file took the tree's lock, it would wait here forever.
 fn walk_under_an_editor<N: Naming, R: Abort + Wait>(
     rt: &R,
     tree: &SharedTree<N>,

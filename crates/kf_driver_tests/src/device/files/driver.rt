@@ -1,4 +1,4 @@
-//! Callbacks of a test, which count themselves.
+//! Callbacks of a test, which count how often they are called.
 ghost use Rattle.std.specs.Prelude.{◌≡◌, true};
 ghost use Rattle.kf_core.specs.Phases.{has_reference};
 ghost use Rattle.kf_core.specs.declared.caller.Phase.TheVariants.{Running};
@@ -10,16 +10,17 @@ use kf_words::Call;
 use std::sync::Wait;
 use std::sync::atomic::{AtomicU64, Ordering};
 
-/// What callbacks do and return. Each takes and gives all bytes unless something else is said.
+/// What callbacks do and return. Unless a variant says otherwise, each takes and gives all bytes.
 #[derive(Clone, Copy)]
 pub(crate) enum Plan {
     /// A show fills its page with this.
     Shows(&'static [u8]),
-    /// A store returns this number, and a read of bytes too, if there is room.
+    /// A store returns this number. A read or write of a binary attribute returns it, too, but at most the
+    /// number of bytes asked for or given.
     Takes(usize),
-    /// All fault with this number, a show once it has filled something.
+    /// All callbacks fail with this number, and a show does so after it has filled something.
     Faults(u16),
-    /// A show removes its own node before it shows this.
+    /// A show fills its page with this, and then removes its own node.
     Leaves(&'static [u8]),
 }
 

@@ -1,4 +1,5 @@
-//! Reads and writes of `/t` one after another, each with its own callbacks, and what each must return.
+//! Reads, writes and polls of `/t`, one after another. Each step has its own callbacks, and says what it must
+//! return.
 
 use super::driver::{Driver, Plan, driver_of};
 use crate::device::fixtures::count_of;
@@ -9,17 +10,17 @@ use std::sync::Wait;
 
 #[derive(Clone, Copy)]
 pub(crate) enum Step {
-    /// A read of 9 bytes at the offset gives these, and makes this many calls.
+    /// A read of 9 bytes at the offset returns these bytes, and makes this many calls.
     Gives(Plan, u64, &'static [u8], u64),
-    /// Why a read at offset 0 fails, and how many calls it makes.
+    /// The error with which a read at offset 0 fails, and how many calls it makes.
     Fails(Plan, FileError, u64),
     /// What a write of these bytes returns, and how many calls it makes.
     Writes(Plan, &'static [u8], Result<usize, FileError>, u64),
-    /// The same of a read of 9 bytes of a binary attribute.
+    /// What a read of 9 bytes of a binary attribute returns, and how many calls it makes.
     ReadsAt(Plan, Result<usize, FileError>, u64),
-    /// The same of a write of these bytes of a binary attribute.
+    /// What a write of these bytes to a binary attribute returns, and how many calls it makes.
     WritesAt(Plan, &'static [u8], Result<usize, FileError>, u64),
-    /// Whether the file has changed.
+    /// Whether a poll says that the file has changed.
     Polls(bool),
 }
 
@@ -37,7 +38,7 @@ fn gives<N: Naming, R: Wait>(
     }
 }
 
-/// Whether the step returns what it must, by as many calls as it may make, if it may make some.
+/// Whether the step returns what it must, and makes exactly as many calls as it must.
 fn is_right<N: Naming, R: Wait>(
     rt: &R,
     tree: &SharedTree<N>,
@@ -62,7 +63,7 @@ fn is_right<N: Naming, R: Wait>(
     is_answered && count_of(&driver.calls) == calls
 }
 
-/// Takes the steps. The first that returns something else than it must stops the test.
+/// Takes the steps. The first step that returns something other than it must stops the test.
 pub(crate) fn walk<N: Naming, R: Abort + Wait>(
     rt: &R,
     tree: &SharedTree<N>,

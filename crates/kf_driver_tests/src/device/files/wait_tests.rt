@@ -1,4 +1,4 @@
-//! Waiting for a change: who waits sleeps, and a notify, a removal and a hiding wake it.
+//! Waiting for a change: a thread that waits sleeps, and a notify, a removal or a hiding wakes it.
 ghost use Rattle.std.specs.Prelude.{◌≡◌};
 
 use super::driver::{Plan, driver_of};
@@ -15,10 +15,10 @@ use std::sync::atomic::{AtomicU64, Ordering};
 use std::thread::{Threads, for_each_mut, sleep};
 use std::time::{Clock, CpuClock, Duration};
 
-/// How often four threads wait for a notify, how often for a hiding, and how often for a removal.
+/// How often four threads wait for a notify, for a hiding, and for a removal.
 const ROUNDS: u64 = 10_000;
 
-/// What becomes of a file.
+/// What happens to a file.
 #[derive(Clone, Copy)]
 enum Change {
     Told,
@@ -64,7 +64,7 @@ pub(super) fn removes<N: Naming, R: Wait>(
     }
 }
 
-/// Whether the live file of a path is there and is changed so.
+/// Makes this change to the live file at a path. Returns whether the file was there and was changed.
 fn changes<N: Naming, R: Wait>(
     rt: &R,
     tree: &SharedTree<N>,
@@ -83,7 +83,7 @@ fn changes<N: Naming, R: Wait>(
     }
 }
 
-/// Whether the file gives one byte.
+/// Whether a read of the file returns one byte.
 pub(super) fn reads<N: Naming, R: Wait>(
     rt: &R,
     tree: &SharedTree<N>,
@@ -95,20 +95,21 @@ pub(super) fn reads<N: Naming, R: Wait>(
 
 // ---- one thread
 
-/// A call on a file of slot 1, or on a post of it, and what it must return. A wait has a limit of 2 ms.
+/// A call on a file in slot 1, or on a post of that slot, and what the call must return. A wait has a limit
+/// of 2 ms, unless the step says otherwise.
 #[derive(Clone, Copy)]
 enum Step {
     Reads,
-    /// Whether a wait of the file ends by a change.
+    /// Whether a wait for the file ends because the file has changed.
     Changes(bool),
-    /// What a wait for another number than this ends by.
+    /// What a wait for a number other than this one returns.
     Passes(u64, Option<u64>),
-    /// The same without a limit.
+    /// What a wait for a number other than this one returns, if it has no limit.
     PassesAtLast(u64, u64),
     Is(Change),
 }
 
-/// Nothing changes: each wait ends by its limit. A notify, a removal: none waits.
+/// If nothing changes, each wait ends at its limit. After a notify or a removal, no call waits.
 const STEPS: [Step; 13] = [
     Step::Changes(true),
     Step::Reads,
@@ -142,7 +143,7 @@ fn is_right<N: Naming, R: Wait + Clock>(
     }
 }
 
-/// Takes the steps. The first that returns something else than it must stops the test.
+/// Takes the steps. The first step that returns something other than it must stops the test.
 fn walk<N: Naming, R: Abort + Wait + Clock>(rt: &R, alloc: Global, tree: &SharedTree<N>) {
     let mut posts = posts_of(rt, alloc);
     let mut post = post_at(rt, &mut posts, 1);
@@ -178,15 +179,15 @@ fn a_wait_ends_by_its_limit_or_by_a_change(rt: HostRuntime) {
 #[derive(Drop)]
 struct Reader {
     posts: Posts,
-    /// It begins once the others have slept for a second.
+    /// Whether the thread begins only once the others have slept for a second.
     comes_last: bool,
-    /// How often it has seen the change that it waited for, and none before it. None counts where others used
-    /// processor in their sleep.
+    /// How often the thread has seen the change that it waited for, and no change before it. Nothing is
+    /// counted if the others used processor time while they slept.
     seen: u64,
 }
 
-/// Opens the file of a path and reads it, and sleeps until it has changed. The last of five to read changes
-/// it, while four wait; a file that is removed is made anew.
+/// Opens the file at a path, reads it, and sleeps until it has changed. The last of the five threads to read
+/// the file changes it, while four wait. A file that is removed is made again.
 fn sees<N: Naming, R: Abort + Wait>(
     rt: &R,
     tree: &SharedTree<N>,
@@ -208,7 +209,7 @@ fn sees<N: Naming, R: Abort + Wait>(
     right && file.poll()
 }
 
-/// Whether hardly any processor time passes in the process while four threads wait, in a second.
+/// Whether the process uses hardly any processor time in a second in which four threads wait.
 fn are_asleep<R: Wait + Clock + CpuClock>(rt: &R, count: &AtomicU64) -> bool {
     for _ in rt.forever() {
         if count.load(Ordering::SeqCst) == 4 {
@@ -224,8 +225,8 @@ fn are_asleep<R: Wait + Clock + CpuClock>(rt: &R, count: &AtomicU64) -> bool {
     }
 }
 
-/// One of five sees changes of `s` and `t` in turn: who changed the one has done so before the other is read
-/// by all.
+/// One of five threads sees changes of `s` and `t` in turn. A change of one file is complete before all
+/// threads have read the other.
 fn takes_part<N: Naming, R: Abort + Wait + Clock + CpuClock>(
     rt: &R,
     tree: &SharedTree<N>,
@@ -245,7 +246,7 @@ fn takes_part<N: Naming, R: Abort + Wait + Clock + CpuClock>(
     }
 }
 
-/// Five readers, whose last comes last.
+/// Five readers, of which the last begins last.
 fn readers_of<R: Abort>(rt: &R, alloc: Global) -> Vec<Reader> {
     let mut posts = posts_of(rt, alloc);
     let mut readers = Vec::new(alloc);
@@ -263,7 +264,7 @@ fn readers_of<R: Abort>(rt: &R, alloc: Global) -> Vec<Reader> {
     readers
 }
 
-/// All five see each change. (They wait for ever if one is not woken.)
+/// All five see each change. (If one were not woken, they would wait forever.)
 fn all_see<N: Naming + Send + Sync, R: Abort + Threads + Wait + Clock + CpuClock + Sync>(
     rt: &R,
     alloc: Global,

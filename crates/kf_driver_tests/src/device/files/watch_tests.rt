@@ -1,5 +1,5 @@
-//! Waiting for the first of three files to change, beside a thread that raises their numbers one at a time,
-//! and at last removes a file. No wake is lost, and the watcher finds the file that has changed and no other.
+//! Waiting for the first of three files to change, while another thread raises their numbers one at a time,
+//! and finally removes a file. No wake is lost, and the watcher finds the file that has changed and no other.
 ghost use Rattle.std.specs.Prelude.{◌≡◌};
 
 use super::wait_tests::{reads, removes, tells};
@@ -15,25 +15,25 @@ use std::sync::Wait;
 use std::sync::atomic::{AtomicU64, Ordering};
 use std::thread::{Threads, join};
 
-/// How often the files are created and one of them removed.
+/// How often the files are created and one of them is removed.
 const LIVES: usize = 60;
 
 /// How often each file changes in a life.
 const ROUNDS: u64 = 50;
 
-/// The files, each by its name and its path.
+/// The files, each with its name and its path.
 const FILES: [(&[u8], &[u8]); 3] = [(b"a", b"/a"), (b"b", b"/b"), (b"c", b"/c")];
 
 /// What the watcher has found.
 #[derive(Drop)]
 struct Found {
-    /// How often each file had changed.
+    /// How often each file was found changed.
     changes: [AtomicU64; 3],
-    /// 1 once it has opened the files and read each.
+    /// 1 once the watcher has opened the files and read each of them.
     ready: AtomicU64,
-    /// 1 while it rests, or is about to.
+    /// 1 while the watcher rests, or is about to.
     rests: AtomicU64,
-    /// One more than the place of the file that was gone, once that was found.
+    /// One more than the place of the file that was found gone, once there is one.
     gone: AtomicU64,
 }
 
@@ -76,7 +76,7 @@ fn look_at<N: Naming, R: Wait>(
     Look::Nothing
 }
 
-/// The file of a path, opened and read once.
+/// The file at a path, opened and read once.
 fn opened<N: Naming, R: Abort + Wait>(
     rt: &R,
     tree: &SharedTree<N>,
@@ -118,8 +118,8 @@ fn watches<N: Naming, R: Abort + Wait>(
     }
 }
 
-/// Raises the number of one file: at once after the watcher found the change before, or in every second round
-/// once it rests, or is about to. Whether the watcher found that.
+/// Raises the number of one file. This is done right after the watcher has found the change before or, in
+/// every second round, once the watcher rests or is about to. Returns whether the watcher found the change.
 fn raises(posts: &mut Posts, key: Key, place: usize, round: u64, found: &Found) -> bool {
     if round % 2 == 1 && !wait_for(1, &found.rests) {
         return false;
@@ -133,7 +133,8 @@ fn raises(posts: &mut Posts, key: Key, place: usize, round: u64, found: &Found) 
     }
 }
 
-/// Raises the number of each file in turn, and then removes one. Whether the watcher found all that.
+/// Raises the number of each file in turn, and then removes one. Returns whether the watcher found all of
+/// this.
 fn changes<N: Naming, R: Wait>(
     rt: &R,
     tree: &SharedTree<N>,

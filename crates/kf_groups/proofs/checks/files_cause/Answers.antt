@@ -4,7 +4,7 @@ use Rattle.kf_groups.specs.Attributes.{file_fault}
 use Rattle.kf_groups.proofs.Names.{one_at, stops_at}
 use Rattle.kf_groups.proofs.checks.files_cause.Goals as goal
 
--- what stands past the end of a list
+-- the default for a place past the end of a list
 blank : Attribute
 blank = record { name = record { ref_ptr = (0, 0); now = [] }; mode = 0; tag = 0 }
 

@@ -6,7 +6,7 @@ use Rattle.kf_groups.proofs.Older.{keeps_on}
 use Rattle.kf_groups.proofs.Several.{all_made, counted, first_refused, later_refused, others_free, without_before}
 use Rattle.kf_groups.proofs.groups.+make_groups.Goals as goal
 
--- what stands past the end of a list
+-- the default for a place past the end of a list
 blank : Group
 blank = record { name = None; attributes = record { ref_ptr = (0, 0); now = [] } }
 

@@ -3,7 +3,7 @@ use Rattle.kf_groups.specs.declared.attribute.Attribute.{Attribute}
 use Rattle.kf_groups.proofs.Leavings.{one_more, refused_first}
 use Rattle.kf_groups.proofs.leaving.+begin_files.Goals as goal
 
--- what stands past the end of a list
+-- the default for a place past the end of a list
 blank : Attribute
 blank = record { name = record { ref_ptr = (0, 0); now = [] }; mode = 0; tag = 0 }
 

@@ -8,7 +8,7 @@ use Rattle.kf_groups.proofs.Older.{keeps_on}
 use Rattle.kf_groups.proofs.Turns.{first_free, later_free, made_keeps, made_more, stays}
 use Rattle.kf_groups.proofs.making.+fill.Goals as goal
 
--- what stands past the end of a list
+-- the default for a place past the end of a list
 blank : Attribute
 blank = record { name = record { ref_ptr = (0, 0); now = [] }; mode = 0; tag = 0 }
 

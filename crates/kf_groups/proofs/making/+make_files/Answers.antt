@@ -12,7 +12,7 @@ use Rattle.kf_groups.proofs.Older.{keeps_linked, keeps_on}
 use Rattle.kf_groups.proofs.Turns.{activated_count, first_free, fresh, itself_linked, later_free, later_none, made_keeps, made_more, stays, stays_activated}
 use Rattle.kf_groups.proofs.making.+make_files.Goals as goal
 
--- what stands past the end of a list
+-- the default for a place past the end of a list
 blank : Attribute
 blank = record { name = record { ref_ptr = (0, 0); now = [] }; mode = 0; tag = 0 }
 

@@ -4,7 +4,7 @@ use Rattle.kf_groups.specs.Attributes.{HasNone}
 use Rattle.kf_groups.proofs.Makings.{each_more, first_shown, one_fewer}
 use Rattle.kf_groups.proofs.taking_back.+take_back_files.Goals as goal
 
--- what stands past the end of a list
+-- the default for a place past the end of a list
 blank : Attribute
 blank = record { name = record { ref_ptr = (0, 0); now = [] }; mode = 0; tag = 0 }
 

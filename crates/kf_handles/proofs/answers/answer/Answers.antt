@@ -1,7 +1,7 @@
 use Rattle.std.proofs.Common.{rules}
 use Rattle.kf_handles.proofs.answers.answer.Goals as goal
 
--- each result is that of the question that was asked
+-- each question gets its own result
 pub returns-in-Ok : goal.returns-in-Ok
 returns-in-Ok g c = rw c.in-Create.is (search rules)
 

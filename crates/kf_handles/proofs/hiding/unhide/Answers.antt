@@ -4,7 +4,7 @@ use Rattle.kf_shared.specs.Hiding.{ShowDone}
 use Rattle.kf_handles.proofs.BySlot.{put_back, put_of_table, taken_of_table, table_of}
 use Rattle.kf_handles.proofs.hiding.unhide.Goals as goal
 
--- the token looked, saw nobody, and its step shows the file
+-- the token looked, saw nobody inside, and then made the step that shows the file
 pub returns-in-Ok-into_hidden-clause-told : goal.returns-in-Ok-into_hidden-clause-told
 returns-in-Ok-into_hidden-clause-told g c =
     let found = c.in-Some.ensures.found in
@@ -20,7 +20,7 @@ returns-in-Ok-into_hidden-clause-told g c =
       c.show.ensures.claims,
     )
 
--- the token looked and is put back
+-- the token looked, and is put back
 pub returns-in-Err-into_hidden-clause-told : goal.returns-in-Err-into_hidden-clause-told
 returns-in-Err-into_hidden-clause-told g c =
     let found = c.in-Some.ensures.found in
@@ -33,7 +33,7 @@ returns-in-Err-into_hidden-clause-told g c =
       (refl, c.in-Some.token, found.0, c.in-Err-into_hidden.ensures.looked),
     )
 
--- it is of the table as the tokens were
+-- the token is of the table, as all tokens were before
 pub returns-in-Err-into_hidden-clause-tokens : goal.returns-in-Err-into_hidden-clause-tokens
 returns-in-Err-into_hidden-clause-tokens g c =
     let found = c.in-Some.ensures.found in

@@ -5,7 +5,7 @@ use Rattle.kf_handles.specs.declared.object.Place.{Place}
 use Rattle.kf_handles.proofs.Refusals.{looker_wants_memory}
 use Rattle.kf_handles.proofs.looking.looker.Goals as goal
 
--- it was made, and there was no memory for its box
+-- the looker was made, but there was no memory for its box
 pub returns-clause-why : goal.returns-clause-why
 returns-clause-why c = λ empty refused.
     let Why : Place → Type 0 = λ p. LookerRefused p.object c.looker_of.new.object NoMemory in (

@@ -2,7 +2,7 @@ use Rattle.std.proofs.Common.{◌≡◌, inr, refl, rules, subst, true}
 use Rattle.kf_core.specs.Tree.{Tree, in_subtree}
 use Rattle.kf_handles.proofs.marking.memory_last.Goals as goal
 
--- the node of the tour is below the top
+-- the node that the tour has reached is in the subtree of the top
 pub returns-then-is_full-clause-memory : goal.returns-then-is_full-clause-memory
 returns-then-is_full-clause-memory g c = λ memory.
     let below = c.below.invariant in

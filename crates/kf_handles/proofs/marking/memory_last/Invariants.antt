@@ -4,7 +4,7 @@ use Rattle.kf_tree.specs.Tours.{HasPassed}
 use Rattle.kf_shared.specs.Locked.{Unchanged}
 use Rattle.kf_handles.proofs.marking.memory_last.Given as goal
 
--- holds come and go, and the tour is one of the tree that stays
+-- holds may be taken and released, but the tree that the tour goes through stays the same
 abbrev pub invariant-below : goal.invariant-below
 invariant-below g l = record {
   same : Unchanged l.fn.locked l.locked;

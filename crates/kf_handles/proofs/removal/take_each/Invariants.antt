@@ -6,7 +6,7 @@ use Rattle.kf_handles.specs.Kept.{AreTokensOf}
 use Rattle.kf_handles.specs.Removing.{Ends}
 use Rattle.kf_handles.proofs.removal.take_each.Given as goal
 
--- of only these nodes some were shown and taken out
+-- some of these nodes were shown or taken out, and no others
 abbrev pub invariant-loop-hold : goal.invariant-loop-hold
 invariant-loop-hold g l = record {
   tables : AreOf g.N.Naming.table (into_iter_items l.rest);

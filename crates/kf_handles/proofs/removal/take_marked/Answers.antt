@@ -4,7 +4,7 @@ use Rattle.kf_handles.specs.Removing.{Ends}
 use Rattle.kf_handles.proofs.Ends.{both_ends, no_end}
 use Rattle.kf_handles.proofs.removal.take_marked.Goals as goal
 
--- shown first, and the hold of the node changes nothing
+-- the node is shown first, and taking a hold of it changes nothing
 pub returns-in-Ok-clause-ends : goal.returns-in-Ok-clause-ends
 returns-in-Ok-clause-ends g c =
     let keys = c.args.key ∷ [] in

@@ -4,7 +4,7 @@ use Rattle.kf_handles.specs.Removing.{Ends}
 use Rattle.kf_handles.proofs.Ends.{both_ends}
 use Rattle.kf_handles.proofs.removal.take_out.Goals as goal
 
--- shown first, and then taken out
+-- the node is shown first, and is then taken out
 pub returns-clause-ends : goal.returns-clause-ends
 returns-clause-ends g c =
     let keys = c.args.hold.key ∷ [] in

@@ -7,7 +7,7 @@ use Rattle.kf_handles.proofs.Refusals.{step_told}
 use Rattle.kf_handles.proofs.tasks.hide.Goals as goal
 use Rattle.kf_handles.proofs.tasks.hide.Goals.{in-Done, in-Not, in-Refused, in_default}
 
--- each result by itself
+-- one case for each result
 pub returns-clause-why : goal.returns-clause-why
 returns-clause-why c = λ not_done not_again. elim c.match-step_handle.branch [
   | in-Done w ↦ search (rules, w, not_done)

@@ -5,7 +5,7 @@ use Rattle.kf_handles.specs.LookUps.{bound_of}
 use Rattle.kf_handles.proofs.Listed.{only_one}
 use Rattle.kf_handles.proofs.texts.next_after.Goals as goal
 
--- the name that was taken is the only one
+-- the name that was taken from the list is the only one
 pub returns-in-Some-clause-name : goal.returns-in-Some-clause-name
 returns-in-Some-clause-name c =
     let t = c.args.state.now.tree in

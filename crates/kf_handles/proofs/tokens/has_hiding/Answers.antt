@@ -8,7 +8,7 @@ use Rattle.kf_handles.specs.Hiding.{HasNoHiding, SawNobody}
 use Rattle.kf_handles.proofs.tokens.has_hiding.Goals as goal
 use Rattle.kf_handles.proofs.tokens.has_hiding.Goals.{in-Some+else-is_hiding, in-None}
 
--- the token that says so, if there is one
+-- the token at this place shows that somebody may be inside a hidden file
 pub returns-then-is_hiding-clause-hiding : goal.returns-then-is_hiding-clause-hiding
 returns-then-is_hiding-clause-hiding c = λ _. (
   c.loop-place.place-index,
@@ -18,7 +18,7 @@ returns-then-is_hiding-clause-hiding c = λ _. (
   c.is_hiding.ensures.hiding c.if-is_hiding.true,
 )
 
--- one place more
+-- one more place
 pub loop-place-preserved : goal.loop-place-preserved
 loop-place-preserved c =
     let xs = c.args.tokens.now in
@@ -31,7 +31,7 @@ loop-place-preserved c =
     All-more Fits xs i None c.loop-place-test.true c.loop-place.invariant
     (at_read xs Fits i c.place-item.result c.loop-place-test.true c.place-item.is fits None)
 
--- there was none left
+-- no place is left
 pub returns-clause-none : goal.returns-clause-none
 returns-clause-none c = λ _.
     let all : length c.args.tokens.now ≤ c.loop-place.place-index = omega (arith, c.loop-place-test.false) in

@@ -1,5 +1,5 @@
 use Rattle.kf_hot_tests.proofs.file_threads.two_read_a_hot_file_that_is_removed.Given as goal
 
--- it is of the tree that was just made
+-- the name `N` stands for the tree that was just made
 abbrev pub ghosts-lives : goal.ghosts-lives
 ghosts-lives g a = record { table = a.new.master.table }

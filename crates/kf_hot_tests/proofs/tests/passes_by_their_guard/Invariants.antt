@@ -1,5 +1,5 @@
 use Rattle.kf_hot_tests.proofs.tests.passes_by_their_guard.Given as goal
 
--- it is of the tree that was just made
+-- the name `N` stands for the tree that was just made
 abbrev pub ghosts-guarded : goal.ghosts-guarded
 ghosts-guarded g a = record { table = a.new.master.table }

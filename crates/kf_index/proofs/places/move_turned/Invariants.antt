@@ -2,7 +2,7 @@ use Rattle.std.proofs.Common.{◌≡◌, ◌≤◌, ◌-◌, length, take, drop,
 use Rattle.kf_index.specs.Places.{AreInOrder, pairs_at}
 use Rattle.kf_index.proofs.places.move_turned.Given as goal
 
--- those that are left are where they were, and the others are turned round
+-- the entries that are left are as they were, and the others were moved, in reverse order
 abbrev pub invariant-loop-left : goal.invariant-loop-left
 invariant-loop-left l = (l.left ≤ l.fn.len)
     × ((l.fn.stay ≤ l.left)

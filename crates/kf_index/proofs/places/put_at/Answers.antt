@@ -1,4 +1,4 @@
--- An entry at a free place, and that place in the order.
+-- An entry is put at a free place, and that place is put into the order.
 use Rattle.std.proofs.Common.{◌≡◌, ◌≢◌, ℕ, ◌+◌, ◌<◌, ◌≤◌, List, ◌∷◌, ◌++◌, length, get_or, take, drop, set, Some, None, ap, ◌∙◌, refl, subst, arith}
 use Rattle.std.specs.List.{insert, All}
 use Rattle.std.specs.List.Sorted.{IsPermutation}

@@ -1,4 +1,4 @@
--- An entry taken out, and its place among the free ones.
+-- An entry is taken out, and its place joins the free ones.
 use Rattle.std.proofs.Common.{◌≡◌, ◌≢◌, ℕ, suc, ◌-◌, ◌<◌, List, [], ◌∷◌, ◌++◌, length, get_or, take, drop, set, Some, None, sym, ap, ◌∙◌, refl, arith, append_assoc}
 use Rattle.std.specs.List.{remove, All, AllPairs}
 use Rattle.std.specs.List.Sorted.{IsPermutation}
@@ -59,7 +59,7 @@ module _ (entries : Places) (order moved : List ℕ) (len at place : ℕ) (kept 
   read_before : (entry : List ℕ × Key) → get_or entries place None ≡ Some entry → entry ≡ get_or (pairs_at entries (take len order)) at entry
   read_before entry stood = sym (get_or-map (entry_at entries) (take len order) at place entry low ∙ rw (← place_of, stood) refl)
 
--- the places of the entries, as the code moved them
+-- the places of the entries after the code has moved them
 moved_by : (order moved : List ℕ) (len at : ℕ) → at < len → moved ≡ remove (take len order) at ++ get_or (take len order) at 0 ∷ []
     → moved ≡ remove (take len order) at ++ get_or order at 0 ∷ []
 moved_by order moved len at within is = is ∙ ap (λ place. remove (take len order) at ++ place ∷ []) (get_or-take len order at 0 within)

@@ -3,7 +3,7 @@ use Rattle.kf_core.specs.declared.key.Key.{Key}
 use Rattle.kf_core.specs.Names.{IsBefore}
 use Rattle.kf_index.proofs.search.search.Given as goal
 
--- lower names stand before `low`, and higher ones from `high` on
+-- the names before `low` are lower, and those from `high` on are higher
 abbrev pub invariant-loop-low : goal.invariant-loop-low
 invariant-loop-low l = (l.low ≤ l.high) × (l.high ≤ length l.entries)
     × ((i : ℕ) (d : List ℕ × Key) → i < l.low → IsBefore (get_or l.entries i d).0 l.name)

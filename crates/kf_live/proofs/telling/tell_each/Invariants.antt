@@ -4,7 +4,7 @@ use Rattle.kf_live.specs.Live.{AreSound, SayBut}
 use Rattle.kf_live.specs.Told.{GrewSound}
 use Rattle.kf_live.proofs.telling.tell_each.Given as goal
 
--- the links say what the tree says, except for the keys that are left, and lead to nothing else
+-- the links are sound, and say what the tree says, except about the keys that are left
 abbrev pub invariant-loop-key : goal.invariant-loop-key
 invariant-loop-key l = record {
   table : l.writer.seat.table_id ≡ l.fn.writer.seat.table_id;

@@ -1,4 +1,4 @@
--- The clauses on the one run, each by the lemma of its name.
+-- Each clause about the one run follows from the lemma of the same name.
 use Rattle.kf_notify.proofs.Histories.{opens_kept, ends_a_run, seen_leads_here, raised_ever_after, first_or_raised, one_run_is_seen}
 use Rattle.kf_notify.proofs.OneEnds.{one_end}
 use Rattle.kf_notify.proofs.laws.numbers_kept.Goals as goal

@@ -5,7 +5,7 @@ use Rattle.std.specs.Prelude.{◌==◌}
 use Rattle.kf_script.specs.Lines.{has_bytes}
 use Rattle.kf_rounds.proofs.cut.push_kinds.Goals as goal
 
--- a line is left, so fewer were counted than there are
+-- a line is left, so there are fewer kinds so far than lines
 fewer : {L V : Type 0} (view : L → V) (kind : List ℕ → V) (told : List L) (line : List ℕ) (later left lines : List (List ℕ)) → map view told ++ map kind (filter has_bytes left) ≡ map kind lines
     → left ≡ line ∷ later → (length line == 0) ≡ false → length told < length lines
 fewer view kind told [] later left lines e split some = absurd (cc)

@@ -6,7 +6,7 @@ use Rattle.kf_rounds.specs.Kinds.{kind_by}
 use Rattle.kf_rounds.specs.KindViews.{kind_view}
 use Rattle.kf_rounds.proofs.cut.push_kinds.Given as goal
 
--- the kinds so far and those of what is left are those of the lines of the script
+-- the kinds so far, followed by the kinds of the lines that are left, are those of the lines of the script
 abbrev pub invariant-loop-left : goal.invariant-loop-left
 invariant-loop-left l =
     (map kind_view l.kinds.items ++ map (kind_by l.workers) (filter has_bytes (later_lines (option_map (λ text. text.now) l.left)))

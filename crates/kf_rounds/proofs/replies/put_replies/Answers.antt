@@ -1,4 +1,4 @@
--- The replies of a part of the lines, put into their places.
+-- The replies to some of the lines are put in their places, one after another.
 use Rattle.std.proofs.Common.{◌++◌, ◌∷◌, ◌∙◌, [], map, take, refl, subst, sym, ap}
 use Rattle.std.proofs.lemmas.List.{take_more}
 use mathlib.Core.List.{map-append}

@@ -1,4 +1,4 @@
--- The bytes go out in writes, each the front of what is left.
+-- The bytes are given to the writer in several writes, each of which writes the front of what is left.
 use Rattle.std.proofs.Common.{◌≡◌, ◌≤◌, ◌-◌, ◌+◌, ◌++◌, ℕ, List, length, take, drop, sym, ap, ◌∙◌, subst, arith, length-drop}
 use Rattle.std.proofs.Math.Seq.{take-add}
 use Rattle.std.proofs.lemmas.List.{take_rest}
@@ -6,7 +6,7 @@ use Rattle.std.specs.Io.KnownBytes.{Appends}
 use Rattle.std.proofs.KnownBytes.{Appends-trans}
 use Rattle.kf_script.proofs.output.give.Goals as goal
 
--- the front that was given, and then the front of the rest
+-- the front that was written and then the front of the rest are a longer front
 further : (bytes : List ℕ) (given n : ℕ) → take given bytes ++ take n (take (length bytes - given) (drop given bytes)) ≡ take (given + n) bytes
 further bytes given n =
     ap (λ l. take given bytes ++ take n l) (take_rest bytes given) ∙ sym (take-add given n bytes)

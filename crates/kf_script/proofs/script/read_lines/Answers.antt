@@ -27,7 +27,7 @@ reads-preserved g c =
       grows-trans _ _ _ (grows-trans _ _ _ grew (grown-given _ _ _ _ given)) c.in_ok-take_bytes.ensures.grew,
     )
 
--- A short search: if it fails, it ends at once.
+-- The search here is short: if the goal does not hold, the search ends at once.
 pub read-requires-clause-told : goal.read-requires-clause-told
 read-requires-clause-told g c = search rules
 

@@ -4,7 +4,7 @@ use Rattle.kf_script.specs.Progress.{Grows}
 use Rattle.kf_script.specs.SoFar.{AnsweredSoFar}
 use Rattle.kf_script.proofs.script.read_lines.Given as goal
 
--- the run has come as far as the bytes that were read, by the same reader and writer
+-- the run has come as far as the bytes that were read, with the same reader and writer
 abbrev pub invariant-reads : goal.invariant-reads
 invariant-reads g l = (read : List ℕ)
     × Consumes (g.R.Read.remaining l.fn.streams.reader.now) (g.R.Read.remaining l.streams.reader.now) read
@@ -13,6 +13,6 @@ invariant-reads g l = (read : List ℕ)
     × (l.streams.output.writer.ghost_name ≡ l.fn.streams.output.writer.ghost_name)
     × Grows (g.W.Write.contents l.fn.streams.output.writer.now) (g.W.Write.contents l.streams.output.writer.now)
 
--- the calls of read that are left
+-- how many calls of read are left
 abbrev pub decreases-reads : goal.decreases-reads
 decreases-reads g l = l.streams.left

@@ -1,4 +1,4 @@
--- What the bytes of one read make of the lines.
+-- What the bytes of one read do to the lines.
 use Rattle.std.proofs.Common.{◌≡◌, ◌+◌, ◌++◌, ◌∷◌, [], ℕ, List, Some, take, drop, position, sym, ap, ◌∙◌, append_assoc, append-nil, refl}
 use Rattle.std.proofs.lemmas.List.{take_rest}
 use Rattle.std.proofs.lemmas.Result.{err_from_is_err_and}

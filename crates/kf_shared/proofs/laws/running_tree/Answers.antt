@@ -1,4 +1,4 @@
--- The clauses of the running tree, each by the lemma of its name.
+-- The clauses of the running tree: each follows from the lemma of its name.
 use Rattle.kf_shared.proofs.Running.{starts_well, is_replay, is_of_history, tree_agrees, starts_live, taken_while_live, runs_linked, marked_for_good, removed_for_good, parted_for_good, hidden_is_still, held_not_given, held_is_last, gone_for_good}
 use Rattle.kf_shared.proofs.laws.running_tree.Goals as goal
 

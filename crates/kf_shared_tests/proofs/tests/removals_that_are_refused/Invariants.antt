@@ -1,5 +1,5 @@
 use Rattle.kf_shared_tests.proofs.tests.removals_that_are_refused.Given as goal
 
--- it is of the tree that was just made
+-- the table is that of the tree that was just made
 abbrev pub ghosts-run_alone : goal.ghosts-run_alone
 ghosts-run_alone g a = record { table = a.new.master.table }

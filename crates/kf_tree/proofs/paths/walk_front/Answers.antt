@@ -10,7 +10,7 @@ use Rattle.kf_tree.proofs.Parts.{front_is, final_more}
 use Rattle.kf_tree.proofs.Unnamed.{walked_named}
 use Rattle.kf_tree.proofs.paths.walk_front.Goals as goal
 
--- one name further
+-- a walk over all names except the last takes the first name, and then walks over the rest
 along_first : (t : Tree) (dir : Key) (text name rest : List ℕ) (r : Result Key Refusal) → slice_split is_slash text ≡ name ∷ slice_split is_slash rest → r ≡ found t dir name
     → walk t dir (front (slice_split is_slash text)) ≡ and_then r (λ next. walk t next (front (slice_split is_slash rest)))
 along_first t dir text name rest r parts e = ap (walk t dir) (front_is text name rest parts) ∙ ap (λ r. and_then r (λ next. walk t next (front (slice_split is_slash rest)))) (sym e)

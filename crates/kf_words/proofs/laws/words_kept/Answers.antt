@@ -1,4 +1,4 @@
--- The clauses on the one run, each by the lemma of its name.
+-- The clauses about the one run: each follows from the lemma of its name.
 use Rattle.kf_words.proofs.Histories.{ends_a_run, seen_leads_here, drained_ever_after, one_run_is_seen, history_is_seen, one_history, notes_stay}
 use Rattle.kf_words.proofs.OneEnds.{one_end}
 use Rattle.kf_words.proofs.NodeWords.{read_as_born}

@@ -1,4 +1,4 @@
--- The clauses on runs of the words, each by the lemma of its name.
+-- The clauses about runs of the words: each follows from the lemma of its name.
 use Rattle.kf_words.proofs.Runs.{opens_well, rule_kept, run_is_run, held_is_named, run_is_safe, marked_keeps_out, drained_for_good, hidden_keeps_out, passed_for_good, born_unheld, let_in_live, taken_live}
 use Rattle.kf_words.proofs.Wakes.{sleepers_are_found}
 use Rattle.kf_words.proofs.laws.words_run.Goals as goal

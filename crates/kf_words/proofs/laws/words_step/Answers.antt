@@ -1,4 +1,4 @@
--- Which event each step is, each by the lemma of its name.
+-- Which event each step is: each clause follows from the lemma of its name.
 use Rattle.kf_words.proofs.Events.{try_is_enter, undo_is_undo, look_is_look, part_is_part, leave_is_leave, break_is_break, restore_is_restore, release_is_release, hide_is_hide, look_hidden_is_look, show_is_show, miss_is_nothing, rise_is_rise, mark_is_mark, birth_is_born, unlink_is_unlink, split_is_pin, held_split_is_pin, share_is_pin, rest_is_nothing, report_passes, answer_passes, count_at_is_pin}
 use Rattle.kf_words.proofs.laws.words_step.Goals as goal
 

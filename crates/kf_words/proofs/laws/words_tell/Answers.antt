@@ -1,4 +1,4 @@
--- What the words say, each by the lemma of its name.
+-- What the words say: each clause follows from the lemma of its name.
 use Rattle.kf_words.proofs.Tells.{always_safe, lets_in_the_live, tells_the_hidden, hidden_is_refused, shown_lets_in, drained_is_unused, free_is_unheld, tells_the_linked}
 use Rattle.kf_words.proofs.laws.words_tell.Goals as goal
 

@@ -1,4 +1,4 @@
--- The seat that came last, and that its board has the tags that it was made with.
+-- The last seat is the new one, and its board has the tags that it was made with.
 use Rattle.std.proofs.Common.{rules}
 use Rattle.kf_workers.proofs.run.add_seat.Goals as goal
 

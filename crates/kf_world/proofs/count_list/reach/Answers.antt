@@ -1,4 +1,4 @@
--- The counts that are written are those that stood for them.
+-- Writing more counts changes none: the new ones are those that the unwritten part stood for.
 use Rattle.std.proofs.Common.{rules, ◌≡◌, ◌≤◌, ◌+◌, ◌-◌, ◌++◌, length, replicate, take}
 use Rattle.kf_world.specs.Counts.{no_counts}
 use Rattle.kf_core.proofs.SlotLists.{rest_written}

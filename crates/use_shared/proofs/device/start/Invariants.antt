@@ -1,5 +1,5 @@
 use Rattle.use_shared.proofs.device.start.Given as goal
 
--- the tree that was just made
+-- the name `N` stands for the tree that was just made
 abbrev pub ghosts-run : goal.ghosts-run
 ghosts-run g a = record { table = a.new.master.table }

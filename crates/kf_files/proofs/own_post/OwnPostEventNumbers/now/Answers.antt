@@ -1,6 +1,6 @@
 use Rattle.kf_files.proofs.own_post.OwnPostEventNumbers.now.Goals as goal
 
--- the step of the post that it has
+-- the result is that of the post inside
 pub returns : goal.returns
 returns g c = rw (← c.self.view_is)
     (record {

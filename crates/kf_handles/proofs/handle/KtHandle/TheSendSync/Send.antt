@@ -1,4 +1,4 @@
--- A handle may go to another thread: the place that it owns may, and any thread may free it.
+-- A handle may be sent to another thread: the place that it owns may be, and any thread may free the place.
 use mir.Raw.{raw}
 use denote.Memory.{lone}
 use denote.Struct.Struct.{exits_of}
@@ -11,7 +11,7 @@ use Rattle.kf_handles.specs.contracts.object.Place as place
 use Rattle.kf_handles.proofs.object.Place.TheSendSync.{the_send as place_goes}
 use Rattle.kf_handles.specs.contracts.handle.KtHandle.{the_row, the_type}
 
--- the pointer and the allocator
+-- both the pointer and the allocator may be sent
 both_go : AllSend (fields the_type)
 both_go = (search sendable, (global.the_field_send, tt))
 

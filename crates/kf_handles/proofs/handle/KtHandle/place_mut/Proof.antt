@@ -1,4 +1,4 @@
--- `place_mut` lends the place that a handle owns, and the handle ends with what was left there.
+-- `place_mut` lends the place that a handle owns. When the loan ends, the handle owns what was left there.
 use Rattle.std.proofs.Common.{◌≡◌, ℕ, List, [], ◌∷◌, refl}
 use base.Fraction.{full_share}
 use base.Fml.{GName, Fml, ftrue, flft, fsep}
@@ -38,13 +38,13 @@ use Rattle.kf_handles.proofs.handle.KtHandle.place_mut.Code as code
 abbrev stays : Stays stated.ended.signature.params stated.ended.kept
 stays = (stay_dropped (mut_ref_to (0 ∷ []) tt (plain (λ _. Whole))) no, tt)
 
--- all of a handle but the place: the right to free it, the allocator, and the handle's own word
+-- all of a handle except the place: the right to free it, the allocator, and the handle's own word
 abbrev Rest : Whole.Denot → ℕ → ℕ → Val → ℕ → ℕ → Fml
 Rest h b o hv rb ro = fsep
     (fsep (token place_box.al h.alloc (bare (τ place_box)) (block_ptr b o)) (handle place_box h.alloc hv))
     (cell_at full_share Whole.mir (word place_box hv b o ∷ []) rb ro)
 
--- with any place there it is the handle of that place
+-- together with any place there, these parts are a handle of that place
 module _ {M : Type 1} {𝓤 : Ura M} (𝓛 : Logic 𝓤) (h : Whole.Denot) (b o : ℕ) (hv : Val) (rb ro : ℕ) where
   back : h.at ≡ block_ptr b o → (w : Inner.Denot) → ent 𝓤
       (sep 𝓤 (sem 𝓛 ((mem Inner).own_at w b o)) (sem 𝓛 (Rest h b o hv rb ro)))

@@ -1,5 +1,5 @@
 use Rattle.kf_handles.proofs.tree.Tree.step.Given as goal
 
--- the tree that is asked
+-- the name `N` stands for the tree that makes the step
 abbrev pub ghosts-step_named : goal.ghosts-step_named
 ghosts-step_named a = record { table = a.nodes.now.master.table }

@@ -1,5 +1,5 @@
 use Rattle.kf_hot_tests.proofs.registry.tests.a_hundred_hot_values.Given as goal
 
--- it is of the tree that was just made
+-- the name `N` stands for the tree that was just made
 abbrev pub ghosts-under_calls : goal.ghosts-under_calls
 ghosts-under_calls g a = record { table = a.new.tree.master.table }

@@ -1,4 +1,4 @@
--- Nothing is left if the part is empty and no chunk is there.
+-- Nothing is left if the part is empty and there are no chunks.
 use Rattle.std.proofs.Common.{◌≡◌, Bool, false, List, [], ◌∷◌, ◌++◌, length, sym, ap, ◌∙◌, refl, arith, rules}
 use Rattle.std.specs.Prelude.{IsTrue, ◌↔◌, ◌==◌}
 use mathlib.Core.Bool.{false≢true}

@@ -1,4 +1,4 @@
--- A list that is not empty is its first and the others.
+-- A list that is not empty is its first item and then the others.
 use Rattle.std.proofs.Common.{◌≡◌, ◌∷◌, ℕ, List, [], get_or, drop, refl}
 use mathlib.Core.Bool.{false≢true}
 use Rattle.kf_core.specs.declared.key.Key.{Key}

@@ -12,7 +12,7 @@ use Rattle.kf_looks.proofs.Following.{goes_on, tells_on}
 use Rattle.kf_looks.proofs.Seats.{same_again}
 use Rattle.kf_looks.proofs.lookup_table.LookupTable.follow.Goals as goal
 
--- one name of the walk
+-- the walk goes on by one name
 along : (links : List Link) (here child : Found) (name part : List ℕ) (text later : List (List ℕ)) → text ≡ part ∷ later → name ≡ part
     → child_of links here.key name ≡ Some child → walked links here text ≡ walked links child later
 along links here child name part text later parts same is =

@@ -7,7 +7,7 @@ use Rattle.kf_core.specs.Paths.{is_slash, is_empty, later_parts}
 use Rattle.kf_looks.specs.Reading.{IsSameSeat, Follows, Tells}
 use Rattle.kf_looks.proofs.lookup_table.LookupTable.follow.Given as goal
 
--- none was empty so far, and the rest of the walk is the whole walk
+-- no name was empty so far, and the rest of the walk leads to what the whole walk leads to
 abbrev pub invariant-loop-rest : goal.invariant-loop-rest
 invariant-loop-rest l = record {
   same : IsSameSeat l.initial.seat l.seat;

@@ -1,4 +1,4 @@
--- Threads may have a `&` to a token side by side.
+-- Several threads may have a `&` to a token at the same time.
 use denote.Param.Send.{IsSync, fixed_sync}
 use Rattle.kf_looks.specs.contracts.writer_token.WriterToken.{the_row}
 use Rattle.kf_looks.specs.declared.writer_token.WriterToken.TheView.{view, invariant}

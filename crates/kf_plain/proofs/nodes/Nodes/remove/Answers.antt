@@ -19,7 +19,7 @@ use Rattle.kf_plain.proofs.HiddenMarks.{told_spent}
 use Rattle.kf_plain.proofs.Ties.{logs}
 use Rattle.kf_plain.proofs.nodes.Nodes.remove.Goals as goal
 
--- what holds of a refusal holds of the result that has it
+-- what holds for a refusal holds for a result with this refusal
 refused_with : {X : Type 0} (Q : Refusal → Type 0) (result : Result X Refusal) (refusal : Refusal) → IsErrAnd result (λ e. e ≡ refusal) → Q refusal → IfErr result Q
 refused_with Q (Ok x) refusal h q = tt
 refused_with Q (Err e) refusal h q = subst Q (sym h) q

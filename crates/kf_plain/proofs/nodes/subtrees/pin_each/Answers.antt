@@ -1,4 +1,4 @@
--- Each node of a list is pinned: what is held so far.
+-- Each node of a list is pinned in turn: what is held so far.
 use Rattle.std.proofs.Common.{rules, ◌≡◌, ◌∙◌, ℕ, ◌+◌, ◌-◌, ◌<◌, ◌≤◌, ap, arith, subst, length, take, drop, List, slice_index_or}
 use Rattle.std.specs.Prelude.{All}
 use Rattle.std.proofs.lemmas.List.{length-drop, get_or-drop, take_all}
@@ -11,7 +11,7 @@ use Rattle.kf_plain.proofs.nodes.subtrees.pin_each.Goals as goal
 abbrev none : Key
 none = record { slot = 0; generation = 0 }
 
--- the item of the rest is the next one of the keys
+-- an item of the rest is the next item of the keys
 next_item : (keys rest : List Key) (i : ℕ) → rest ≡ drop 1 keys → slice_index_or rest i none ≡ slice_index_or keys (i + 1) none
 next_item keys rest i e = (let n : 1 + i ≡ i + 1 = omega arith in ap (λ ks. slice_index_or ks i none) e ∙ get_or-drop 1 keys i none ∙ ap (λ m. slice_index_or keys m none) n)
 

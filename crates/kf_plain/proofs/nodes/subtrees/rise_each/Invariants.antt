@@ -3,6 +3,6 @@ use Rattle.kf_tree.specs.SlotMarks.{Changed, risen_if}
 use Rattle.kf_plain.specs.Nodes.{OnlyMarks}
 use Rattle.kf_plain.proofs.nodes.subtrees.rise_each.Given as goal
 
--- the first nodes have risen, and nothing else changed
+-- the first nodes have risen, and nothing else has changed
 abbrev pub invariant-loop-key : goal.invariant-loop-key
 invariant-loop-key l = Changed risen_if (take l.key-index l.keys) l.fn.world.world.slots l.world.world.slots × OnlyMarks l.fn.world l.world

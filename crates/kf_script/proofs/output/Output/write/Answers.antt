@@ -3,7 +3,7 @@ use Rattle.std.proofs.lemmas.Result.{err_from_is_err_and}
 use Rattle.kf_script.proofs.Kept.{grown-given, grows-trans, keeps-none, same-given, writes-grow}
 use Rattle.kf_script.proofs.output.Output.write.Goals as goal
 
--- Short searches: where such a goal fails, they end at once.
+-- The searches here are short: if a goal does not hold, its search ends at once.
 pub returns-clause-unwritten : goal.returns-clause-unwritten
 returns-clause-unwritten g c = search rules
 

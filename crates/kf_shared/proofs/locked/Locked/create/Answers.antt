@@ -18,7 +18,7 @@ create_under-requires-clause-vacant g c =
     (vacant_next g.N.Naming.table c.self.inside.state.log c.self.inside.master c.free_key-next.new.self c.self.inside.claims.items c.free_key-next.result
     c.self.invariant.0 c.root.ensures.kept c.free_key-next.ensures.kept c.free_key-next.ensures.may_bear)
 
--- what the search found, it found also when the command was noted
+-- what the search found is still so after the command was noted
 bears : (old noted : MasterState) (next : Option Key) → IfSome next (λ k. MayBear old.view k) → noted.view ≡ old.view → IfSome next (λ k. MayBear noted.view k)
 bears old noted next found same = subst (λ (v : MasterView). IfSome next (λ k. MayBear v k)) (sym same) found
 

@@ -1,4 +1,4 @@
--- `lent` lends the memory of a tree at its type with the name.
+-- `lent` lends the memory of a tree without a name at the type of a tree with a name.
 use mathlib.Core.Path.{◌≡◌, refl}
 use Prim.Native.Nat.{ℕ}
 use mathlib.Core.List.{[], ◌∷◌}

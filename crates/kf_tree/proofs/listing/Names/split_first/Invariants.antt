@@ -2,7 +2,7 @@ use Rattle.std.proofs.Common.{◌≡◌, length, take}
 use Rattle.kf_tree.specs.Listing.{live_names}
 use Rattle.kf_tree.proofs.listing.Names.split_first.Given as goal
 
--- the live names of what is left are all that are to come
+-- the live names among the children that are left, up to the limit, are all the names still to come
 abbrev pub invariant-children : goal.invariant-children
 invariant-children l = take l.limit (live_names l.table l.later) ≡ l.fn.self
 

@@ -6,7 +6,7 @@ use Rattle.std.specs.Prelude.{None, vec_capacity}
 use Rattle.kf_tree.proofs.Sound.{Follows, activated_follows}
 use Rattle.kf_tree.proofs.state.State.activate_in_order.Goals as goal
 
--- what the lemma says of this call
+-- the lemma, applied to this call
 both : (c : goal.After-store) → Follows (record { root = c.self.inside.root; tree = c.self.inside.table; commands = c.self.inside.commands.items; ready = c.self.inside.ready }) (Activate c.args.key) (linked_cause c.self.inside.table c.args.key) (vec_capacity c.store.new.commands) (c.self.inside.owed)
     (record { root = c.self.inside.root; tree = c.activate_each.new.table; commands = c.store.new.commands.items; ready = None })
 both c = activated_follows (record { root = c.self.inside.root; tree = c.self.inside.table; commands = c.self.inside.commands.items; ready = c.self.inside.ready }) _ _ c.self.invariant _ c.args.key c.args.order.now c.activate_each.new.table c.make_room.new.commands.items c.store.new.commands.items

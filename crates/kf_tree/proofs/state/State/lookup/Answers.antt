@@ -1,4 +1,4 @@
--- Short searches: where such a goal fails, they end at once.
+-- The searches here are short: if a goal does not hold, its search ends at once.
 use Rattle.std.proofs.Common.{rules}
 use Rattle.kf_tree.proofs.state.State.lookup.Goals as goal
 

@@ -1,5 +1,5 @@
--- The slot of a new node gets its next generation, with the marks of a fresh one. (If `search rules` fails, it
--- ends at once.)
+-- The slot of a new node gets its next generation, and the marks of a fresh node. (If `search rules` fails
+-- here, it ends at once.)
 use Rattle.std.proofs.Common.{rules, List, length-set, refl, arith, sym, ap, ◌∙◌, subst}
 use Rattle.std.specs.Prelude.{Some}
 use Rattle.kf_core.specs.declared.key.Key.{Key}

@@ -1,4 +1,4 @@
--- The node of a slot gets the mark of a doomed one.
+-- The node of a slot gets the mark of a doomed node.
 use Rattle.std.proofs.Common.{◌≡◌, List, length-set, slice_set, refl, arith, sym, ap, ◌∙◌}
 use Rattle.std.specs.Prelude.{Some}
 use Rattle.kf_core.specs.declared.key.Key.{Key}

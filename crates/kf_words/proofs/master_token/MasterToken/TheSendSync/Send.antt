@@ -1,4 +1,4 @@
--- A token goes to another thread as its seat does.
+-- A token may be sent to another thread because its seat may.
 use denote.Param.Send.{IsSend, fixed_send}
 use Rattle.kf_words.specs.contracts.master_token.MasterToken.{the_row}
 use Rattle.kf_words.specs.declared.master_token.MasterToken.TheView.{view, invariant}

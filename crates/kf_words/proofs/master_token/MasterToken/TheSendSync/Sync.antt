@@ -1,4 +1,4 @@
--- Threads may have a `&` to a token side by side.
+-- Several threads may have a `&` to a token at the same time.
 use denote.Param.Send.{IsSync, fixed_sync}
 use Rattle.kf_words.specs.contracts.master_token.MasterToken.{the_row}
 use Rattle.kf_words.specs.declared.master_token.MasterToken.TheView.{view, invariant}

@@ -1,4 +1,4 @@
--- The seat goes into the struct.
+-- The seat moves into the struct.
 use Rattle.std.proofs.Common.{◌≡◌, List, [], ◌∷◌, ◌++◌, refl}
 use Rattle.std.proofs.raw_atomic.Walks.{proved}
 use base.Fml.{ftrue, fsep, feq}

@@ -1,4 +1,4 @@
--- Short searches: where such a goal fails, they end at once.
+-- Short searches: if such a goal fails, they end at once.
 use Rattle.std.proofs.Common.{rules}
 use Rattle.kf_words.proofs.wake_due.WakeDue.spend.Goals as goal
 

@@ -1,4 +1,4 @@
--- What the Master keeps is as its view at the opening.
+-- What the Master keeps agrees with its view at the opening.
 use Rattle.std.proofs.Common.{◌≡◌, ◌+◌, ℕ, length, length-set, replicate, arith, sym, ap, ◌∙◌}
 use Rattle.std.specs.Prelude.{Some, None}
 use Rattle.std.proofs.lemmas.List.{length-replicate}

@@ -1,4 +1,4 @@
--- The slot was written before, or is now.
+-- The counts of the slot were written before, or are written now.
 use Rattle.std.proofs.Common.{◌≡◌, ◌<◌, ◌-◌, ◌++◌, ◌∙◌, length, replicate, slice_set, ap, arith, sym}
 use Rattle.std.proofs.lemmas.Option.{get_or_from_slice_get}
 use Rattle.std.specs.Prelude.{slice_get, Some}

@@ -1,4 +1,4 @@
--- A slot that a caller holds was written.
+-- The counts of a slot that a caller holds were written.
 use Rattle.std.proofs.Common.{sym, subst}
 use Rattle.kf_world.specs.Counts.{IsHeldIn, no_counts}
 use Rattle.kf_core.proofs.SlotLists.{written}

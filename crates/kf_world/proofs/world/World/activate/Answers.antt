@@ -1,4 +1,4 @@
--- The marks are those of the event.
+-- The marks change as the event says.
 use Rattle.std.proofs.Common.{refl}
 use Rattle.kf_core.specs.declared.event.Event.TheVariants.{Rise}
 use Rattle.kf_world.proofs.Events.{linked_now, marks_within}

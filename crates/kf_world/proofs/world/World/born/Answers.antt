@@ -1,4 +1,4 @@
--- The marks are those of the event.
+-- The marks change as the event says.
 use Rattle.std.proofs.Common.{refl}
 use Rattle.std.specs.Prelude.{[]}
 use Rattle.std.proofs.lemmas.Option.{slice_get_within}

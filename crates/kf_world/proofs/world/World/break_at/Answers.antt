@@ -1,4 +1,4 @@
--- The caller is that of the event.
+-- The caller that is read is the one of the event.
 use Rattle.std.proofs.Common.{ap}
 use Rattle.kf_core.specs.declared.event.Event.TheVariants.{Break}
 use Rattle.kf_world.specs.Bounded.{BoundedWorld}

@@ -1,4 +1,4 @@
--- The marks are those of the event.
+-- The marks change as the event says.
 use Rattle.std.proofs.Common.{◌≡◌, ap, sym, subst}
 use Rattle.std.specs.Prelude.{slice_get, Some}
 use Rattle.kf_core.specs.declared.event.Event.TheVariants.{Mark}

@@ -1,4 +1,4 @@
--- The caller is that of the event, and the phase follows from the node.
+-- The caller that is read is the one of the event, and its next phase depends on whether the node is live.
 use Rattle.std.proofs.Common.{ap, sym, ◌∙◌, true, false}
 use Rattle.kf_core.specs.declared.event.Event.TheVariants.{Enter}
 use Rattle.kf_world.specs.Bounded.{BoundedWorld}

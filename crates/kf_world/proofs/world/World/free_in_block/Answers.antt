@@ -1,4 +1,4 @@
--- A slot whose bit is not left is not free: its mark is set, or the search has looked at it.
+-- A slot whose bit is clear in `left` is not free: its mark is set, or the search has looked at the slot.
 use Rattle.std.proofs.Common.{rules, ◌≡◌, ℕ, ◌*◌, ◌+◌, ◌-◌, ◌/◌, ◌%◌, ◌≤◌, ◌<◌, List, inl, inr, false, length, arith, refl, ap, sym, ◌∙◌, subst, get_or, IsTrue}
 use Rattle.std.specs.Prelude.{slice_get, Some}
 use Rattle.std.specs.Int.{bit_at}

@@ -1,4 +1,4 @@
--- No slot of the block whose bit is not left is free.
+-- From slot 1 on, no slot of the block is free if its bit is clear in `left`.
 use Rattle.std.proofs.Common.{◌≡◌, ℕ, ◌+◌, ◌*◌, ◌<◌, ◌≤◌}
 use Rattle.std.specs.Int.{bit_at}
 use Rattle.kf_world.specs.Bounded.{IsFree}

@@ -1,4 +1,4 @@
--- No slot of a marked group is free, and none below the lowest.
+-- No slot of a marked group is free, and no slot below the hint's lowest one.
 use Rattle.std.proofs.Common.{◌≡◌, ◌*◌, ◌+◌, ◌/◌, ◌≤◌, inl, inr, true, length, arith, refl, ap, sym, ◌∙◌, subst}
 use Rattle.std.specs.Prelude.{slice_get, Some}
 use Rattle.std.proofs.lemmas.Option.{slice_get_read}

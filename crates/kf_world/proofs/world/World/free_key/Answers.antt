@@ -1,4 +1,4 @@
--- The next generation of the lowest free slot.
+-- The key has the next generation of the lowest free slot.
 use Rattle.std.proofs.Common.{◌<◌, ◌+◌, length, arith, ap, subst}
 use Rattle.std.proofs.lemmas.Option.{slice_get_within}
 use Rattle.kf_world.specs.Bounded.{BoundedWorld, IsFree}

@@ -1,4 +1,4 @@
--- A slot is free by its state and its count of holds.
+-- Whether a slot is free follows from its state and its count of holds.
 use Rattle.std.proofs.Common.{◌≤◌, length, ap, sym, ◌∙◌, subst, ◌≡◌}
 use Rattle.std.specs.Prelude.{slice_get, Some}
 use Rattle.kf_world.specs.Bounded.{BoundedWorld}

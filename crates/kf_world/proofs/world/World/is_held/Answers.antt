@@ -1,4 +1,4 @@
--- A caller that holds the slot of its last key holds the key.
+-- A caller that holds a slot holds the last key of that slot.
 use Rattle.std.proofs.Common.{◌<◌, ◌≤◌, length, ap, ◌∙◌, subst, arith, ◌≡◌, sym}
 use Rattle.std.proofs.lemmas.Bool.Decides.{Decides-ltb, Decides-eqb}
 use Rattle.kf_core.specs.Safe.{Safe}

@@ -1,4 +1,4 @@
--- A caller that hides a key holds the last key of its slot.
+-- A caller that hides a key holds it, so the key is the last of its slot.
 use Rattle.std.proofs.Common.{◌≡◌, ◌<◌, ◌≤◌, length, ap, sym, ◌∙◌, subst, arith, true, false}
 use Rattle.std.proofs.lemmas.Bool.Decides.{Decides-ltb, Decides-eqb}
 use Rattle.kf_core.specs.Safe.{Safe}

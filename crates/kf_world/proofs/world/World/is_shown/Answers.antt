@@ -1,4 +1,4 @@
--- A linked node is the last of its slot, so that who hides there hides it.
+-- A live node has the last key of its slot, so a caller that hides the slot's key hides this node.
 use Rattle.std.proofs.Common.{ap, ◌∙◌, nat_eq}
 use Rattle.kf_core.proofs.Keeping.{live_last}
 use Rattle.kf_world.proofs.CallerCounts.{shown_exact}

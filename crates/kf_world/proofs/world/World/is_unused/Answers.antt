@@ -1,4 +1,5 @@
--- The count of references of the slot of its last key says whether somebody has one to the node.
+-- A caller holds the key, so the key is the last of its slot, and the slot's count of references says whether
+-- somebody has one to the node.
 use Rattle.std.proofs.Common.{sym, ◌∙◌}
 use Rattle.std.proofs.lemmas.Bool.Decides.{Decides-eqb}
 use Rattle.kf_world.proofs.CallerCounts.{unused_exact}

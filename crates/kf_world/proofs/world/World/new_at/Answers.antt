@@ -1,4 +1,4 @@
--- The opening world is kept.
+-- The opening world is sound.
 use Rattle.std.proofs.Common.{◌∙◌, subst, sym}
 use Rattle.kf_world.specs.Hints.{Covers}
 use Rattle.kf_world.proofs.Kept.{opening_kept}

@@ -1,4 +1,4 @@
--- The change is a step, and the counts of the slot follow.
+-- The change is a step, and the counts of the slot change with it.
 use Rattle.std.proofs.Common.{◌≡◌, ◌+◌, length, ap, sym, subst, arith, not, refl, ◌∙◌}
 use Rattle.std.proofs.lemmas.Option.{slice_get_within, slice_get_read}
 use Rattle.kf_core.specs.Phases.{is_spent, has_reference, is_hiding}

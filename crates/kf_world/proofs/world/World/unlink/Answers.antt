@@ -1,4 +1,4 @@
--- The caller of the event is drained, and so holds the slot still.
+-- The caller of the event is drained, so it still holds the slot.
 use Rattle.std.proofs.Common.{ap}
 use Rattle.kf_core.specs.declared.event.Event.TheVariants.{Unlink}
 use Rattle.kf_world.specs.Bounded.{BoundedWorld}

@@ -1,4 +1,4 @@
--- Each block that the loop passes is marked, and no other changes.
+-- Each block that the loop passes is marked, and no other block changes.
 use Rattle.std.proofs.Common.{◌≡◌, ◌≢◌, ℕ, List, ◌<◌, inl, inr, length, length-set, set, get_or, get_or-set_same, get_or-set_other, arith, ap, sym, subst, ◌∙◌}
 use Rattle.std.specs.Int.{bit_at}
 use Rattle.std.proofs.lemmas.Nat.Bits.{bit_at_ones}

@@ -1,4 +1,5 @@
--- What is marked lies in the range, or was marked before; and all of it so far is marked.
+-- A mark that is set lies in the range or was set before, marks stay set, and the range is marked as far as
+-- the loop has come.
 use Rattle.std.proofs.Common.{◌≡◌, ℕ, ◌<◌, ◌≤◌, ◌⊎◌, length}
 use Rattle.std.specs.Prelude.{slice_index}
 use Rattle.std.specs.Int.{bit_at}

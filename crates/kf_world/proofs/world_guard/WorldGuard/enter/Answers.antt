@@ -1,4 +1,4 @@
--- The try is one event, and its caller may end the call, or try again.
+-- The try is one event. After it the caller may end the call, or if the try was refused, try again.
 use Rattle.std.proofs.Common.{refl}
 use Rattle.kf_core.specs.declared.caller.Phase.TheVariants.{Running}
 use Rattle.kf_world.proofs.Events.{told_caller}

@@ -1,4 +1,4 @@
--- The end is one event, and its caller may try again.
+-- The end of the call is one event, and after it the caller may try again.
 use Rattle.std.proofs.Common.{refl}
 use Rattle.kf_core.specs.declared.caller.Phase.TheVariants.{Running}
 use Rattle.kf_world.proofs.WorldVisits.{may_leave, may_enter_after}

@@ -1,4 +1,4 @@
--- `into_box` makes the box again of what it was taken apart into.
+-- `into_box` puts a box together again from the parts that it was taken apart into.
 use Rattle.std.proofs.Common.{◌≡◌, List, [], ◌∷◌, ◌++◌, refl, sym, subst, ap}
 use lib.Dec.{T as IsTrue}
 use mir.Syntax.{Fn, Args, a_type, dcons, dnil, Body, place, copy, assign, rv_opd, seq, return}
@@ -68,7 +68,8 @@ into_box_spec 𝓤 𝓛 𝓜 𝓡 wired T A LT LA ghosts methods drops allocator
     sets ! (of_opd ! (get_in ! (fld ! refl (stop !)) (sub ! 0 refl (whole !)))) refl (tt, tt) $
     sets ! (of_opd ! (get_in ! (fld ! refl (stop !)) (sub ! 1 refl (whole !)))) refl fits $
     first ! $ blocks ! $ sets ! (of_opd ! (get ! refl)) refl fits $
-    -- [the value with the right to free it; the allocator; nothing; the tokens; what they are good for]
+    -- [the value with the right to free it; the allocator; nothing; the tokens; that their lifetimes are
+    -- within those of the types]
     let y : Shut.Ghost = ((κs, qs, tt, (alloc, (block_ptr block at, tt)), (heap ∷ [], (vptr block at ∷ [], tt))), value) in
     move ! (4 ∷ []) $ split3 ! $ move ! (2 ∷ []) $ drop ! $ move ! (1 ∷ 2 ∷ []) $ join ! $ move ! (1 ∷ 0 ∷ []) $ join ! $
     move ! (2 ∷ []) $ feq_i ! (List Val) (vptr block at ∷ []) (vptr block at ∷ []) refl $ fjoin ! $ move ! (2 ∷ 0 ∷ []) $ fjoin ! $

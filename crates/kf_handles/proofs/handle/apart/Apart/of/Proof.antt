@@ -1,4 +1,4 @@
--- `of` takes the box apart: the pointer and the allocator own what it owned.
+-- `of` takes a box apart: the pointer and the allocator own what the box owned.
 use Rattle.std.proofs.Common.{◌≡◌, List, [], ◌∷◌, ◌++◌, refl, ap, ◌∙◌}
 use mir.Syntax.{Fn, Args, a_type, dcons, dnil}
 use mir.MapTy.{inst_fn}
@@ -64,7 +64,8 @@ of_spec 𝓤 𝓛 𝓜 𝓡 wired T A LT LA ghosts methods drops drops_value all
     enter ! machine.C machine.Λ body (held ∷ []) Post $
     alloc_all ! (λ l. pass_all ! refl (box_typed E heap block at fits, tt) $
     sets ! (of_opd ! (get ! refl)) refl (box_typed E heap block at fits) $
-    -- [the box; nothing; the tokens; what they are good for]: this is what the call asks for
+    -- [the box; nothing; the tokens; that their lifetimes are within those of the types]: this is what the
+    -- call requires
     let y : Open.Ghost = ((κs, qs, tt, (box, tt), (held ∷ [], tt)), tt) in
     fjoin ! $ move ! (1 ∷ 0 ∷ []) $ join ! $ join ! $ use1 𝓛 (raw (Open.pre y)) (id⊢ 𝓤 _) $
     calls_at ! (framed 𝓤 𝓛.H 𝓜 machine) Open

@@ -1,4 +1,4 @@
--- Words of 0 have no bit, and no group is marked.
+-- In words that are 0 no bit is set, and no group is marked.
 use Rattle.std.proofs.Common.{rules, ◌≡◌, ℕ, ap, sym, ◌∙◌, true, false, arith, replicate, inl, inr, ◌+◌, ◌/◌, ◌%◌}
 use Rattle.std.specs.Int.{bit_at}
 use Rattle.std.proofs.lemmas.Nat.Bits.{bit_at-zero}
