@@ -17,7 +17,7 @@ static int64_t look(struct kt_handle *call, void *object)
 static int32_t make(void *object, struct kt_key *file)
 {
     struct kt_key root;
-    int32_t made = kt_create_root(&tree, 64, 64);
+    int32_t made = kt_create_root(&tree, 64, 64); /* at most 64 nodes, and 64 holds of each */
     if (!made)
         made = kt_root(&tree, &root);
     if (!made)

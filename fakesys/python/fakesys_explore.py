@@ -12,6 +12,7 @@ import math
 import os
 import signal
 import time
+import typing
 
 import fakesys
 import fakesys_library
@@ -41,6 +42,15 @@ class Find:
 
     def is_sure(self):
         return self.again == fakesys_report.TIMES
+
+
+class Given(typing.NamedTuple):
+    """The line of `--at`, in place of a point."""
+
+    line: str
+
+    def change(self):
+        return self.line.split(" ", 4)[-1]
 
 
 class Search:
@@ -100,7 +110,7 @@ class Search:
     def calm_changes(self, point):
         """Lines before the start of a calm run: first what this point changes, then all devices absent, all files failing,
         and each kind of device absent or file failing."""
-        yield (point.change().replace("replug", "unplug"),)
+        yield tuple(it.replace("replug", "unplug") for it in point.change().split(";;"))
         devices = {device for step in self.steps for device in self.places.of_step(step)}
         outer = sorted(it for it in devices if not self.places.above(os.path.dirname(it)) & devices)
         read = dict.fromkeys(step.path for step in self.steps if step.kind == "read" and step.path in self.places.files)
@@ -172,13 +182,13 @@ class Search:
     def try_line(self):
         """Runs the command under one line, some times. Returns how it ended each time, in words."""
         self.see_steps()
-        ends = []
+        given, ends = Given(self.options.at), []
         for _ in range(self.options.times):
             happened = self.rooms.run([self.options.at], restart=True)
             if "refused" in happened:
                 raise fakesys_run.Refused(f"--at: {happened['refused']}")
             ending = Ending(happened["code"], happened["said"])
-            what = ending.what() if self.verdict.is_fault(ending) else None
+            what = ending.what() if self.is_fault(given, ending) else None
             ends.append(what if happened["is_reached"] else f"{what or 'no fault'}, but the step was not made")
         return ends
 

@@ -10,7 +10,9 @@ FAULTS = ("fail", "late", "slow")
 
 
 def make_whole(tree):
-    """What is missing comes, what is new goes, texts and faults are as at first. Devices come as `plug` plugs them."""
+    """What is missing comes, what is new goes, texts and faults are as at first. Devices come as `plug` plugs them. First the
+    `at` lines go whose step has not come: a look-up that is made here would be a step too."""
+    write_all(tree, ["at off"])
     words = tree.description.words
     made = {unescaped_path(path): word for word, path, _ in words if word in NODES}
     there = nodes_of(tree)

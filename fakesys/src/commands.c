@@ -59,9 +59,11 @@ static int run_rm(struct line *line)
     return changed(remove_node(line->keys[0]));
 }
 
+/* A link to a device is not the device: without it the device would stay, and a test would try nothing. */
 static int run_unplug(struct line *line)
 {
-    return changed(unplug_node(line->keys[0]));
+    bool is_link = S_ISLNK(node_of(number_of(line->keys[0]))->mode);
+    return is_link ? -EINVAL : changed(unplug_node(line->keys[0]));
 }
 
 static int run_hide(struct line *line)

@@ -118,11 +118,15 @@ def judged(tools):
     ran = explore(tools, script=sound)
     must(ran.returncode == 0 and " 0 finds" in last_line(ran), f"a deliberate status: {ran}")
     must(int(last_line(ran).split()[0]) > 20, f"points: {ran}")
+    ran = explore(tools, "--at", f"at lookup {CHIP} 1 unplug {CHIP}", "--times", "2", script=sound)
+    must((ran.returncode, ran.stdout) == (0, "2 of 2: no fault\n"), f"one line is judged as a search judges: {ran}")
     ran = tools.run("explore", tools.file("two.kf", "".join(TWO)), "--", "sh", "-c", STRICT, timeout=PATIENCE)
     must(ran.returncode == 0 and " 0 finds" in last_line(ran), f"a status that it has if all devices are absent: {ran}")
     strange = "for chip in $(ls /sys/class/hwmon); do [ -e /sys/class/hwmon/$chip/name ] || exit 4; done"
     ran = explore(tools, "--actions", "unplug", script=strange)
     must(ran.returncode == 1 and found_in(ran)[0][0] == "status 4", f"a status that no calm run had: {ran}")
+    ran = explore(tools, "--at", found_in(ran)[0][1], "--times", "2", script=strange)
+    must((ran.returncode, ran.stdout) == (1, "2 of 2: status 4\n"), f"the same by its line: {ran}")
     ran = explore(tools, "--actions", "unplug", "--ok", "0,4", script=strange)
     must(ran.returncode == 0, f"an accepted status: {ran}")
     waits = f"until read name < /sys{CHIP}/name; do :; done 2> /dev/null"

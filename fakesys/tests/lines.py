@@ -218,8 +218,9 @@ def unplugged(mount):
         "link /bus/again /bus/fan0",
     )
     must(
-        mount.ask("unplug /no", "unplug /", "unplug") == ["err NoEntry 2", "err Invalid 22", "err Line 22"],
-        "refusals",
+        mount.ask("unplug /no", "unplug /", "unplug /bus/fan0", "unplug")
+        == ["err NoEntry 2", "err Invalid 22", "err Invalid 22", "err Line 22"],
+        "refusals: a link is not the device",
     )
     must(sorted(os.listdir(mount.path("/bus"))) == ["again", "fan0", "fan1", "speed"], "which change nothing")
     mount.done("slow /devices/fan0/speed 2000")

@@ -107,6 +107,20 @@ def hidden(tools):
             must(look() == before, f"made whole: {look()}")
 
 
+def unmade_steps(tools):
+    """A step that has not come is forgotten when a tree is made whole, so no later reader meets it"""
+    sys.path.insert(0, str(tools.modules))
+    from fakesys import FakeSys
+    from fakesys_whole import make_whole
+
+    with FakeSys(tools.chip) as tree:
+        for kind, path in ("read", f"{CHIP}/name"), ("lookup", CHIP), ("list", "/class/hwmon"):
+            tree.give(f"at {kind} {path} 2 unplug {CHIP}")
+        make_whole(tree)
+        for _ in range(3):
+            must(os.listdir(tree.path("/class/hwmon")) == ["hwmon0"] and tree.read(f"{CHIP}/name") == b"coretemp\n", "it stays")
+
+
 def long_texts(tools):
     """A text that is cut in a description is cut again when a tree is made whole; a recording has all of a long file"""
     sys.path.insert(0, str(tools.modules))
@@ -181,4 +195,4 @@ def examples(tools):
     return ran.stdout.strip().split("\n")[-1]
 
 
-TRIED = (module, loose_links, hidden, long_texts, module_ends, examples)
+TRIED = (module, loose_links, hidden, unmade_steps, long_texts, module_ends, examples)
